@@ -9,6 +9,7 @@ import unittest
 from lib.client import TOP, digest_of
 from lib.copied_stores import CopiedStores, Rounds, fake_ssh
 from lib.stores import opening_of, write_store
+import journal
 
 ROUNDS = 100
 
@@ -48,7 +49,7 @@ class Switch(CopiedStores):
         _, seconds = self.serve_store(self.copy)
         print(f"\nfirst copy: {first}second copy: {second}a start with the copy: {seconds:.2f} s", flush=True)
         self.assertIn("2,000 entries, 2,000 of them new", first)
-        self.assertEqual(digest_of((self.copy / "journal").read_bytes()), digest_of((self.store / "journal").read_bytes()))
+        self.assertEqual(digest_of(journal.file_in(self.copy)), digest_of(journal.file_in(self.store)))
         shutil.rmtree(self.copy)
 
 

@@ -13,7 +13,7 @@ import stat
 import journal
 import piece_tables
 from shown_text import shown
-from store_source import end_of_records
+from store_source import end_of_records, records_of
 
 # How many descriptors the program keeps for itself, and for each node; and how many connections a node needs (docs/WIRE.md, "Deadlines and places").
 OF_PROGRAM, OF_NODE, LEAST = 16, 8, 8
@@ -100,31 +100,59 @@ def owner_beside_root(folder):
     return name_of(owner) if owner and os.geteuid() == 0 else None
 
 
-def of_journal(folder):
-    """What is wrong with the journal of a store. That there is none is no fault: the program makes one."""
-    file = pathlib.Path(folder) / "journal"
+def of_slot(file):
+    """What is wrong with the file of a slot, if there is one, beside what it has."""
     if not os.path.lexists(file):
-        blobs = any(name.startswith(("c-", "t-")) for name in os.listdir(folder))
-        return [f"{shown(file)}: there is none, and the folder has files of a store: it would begin with an empty history"] if blobs else []
+        return []
     if not file.is_file():
         return [f"{shown(file)}: it is no file"]
     for right, word in ((os.R_OK, "read"), (os.W_OK, "write")):
         if not os.access(file, right, effective_ids=True):
             return [f"{shown(file)}: no permission to {word} it: {owner_of(file)}"]
-    if is_locked(file):
-        return [f"{shown(file)}: {who_locks(file)} has it open"]
+    return [f"{shown(file)}: {who_locks(file)} has it open"] if is_locked(file) else []
+
+
+def of_header(folder, slots):
+    """Why two slots aren't opened, by their headers."""
+    for name, slot in zip(journal.SLOTS, slots):
+        try:
+            journal.generation_of(slot)
+        except journal.BadHeader:
+            file = shown(pathlib.Path(folder) / name)
+            return [f"{file}: it is no journal (BadHeader): its first bytes are {slot[:17].hex(' ')}, and those of a journal {journal.EMPTY.hex(' ')}"]
+    return [f"{shown(folder)}: `journal` and `journal.2` have one generation (BadHeader): only one of them is this store's"]
+
+
+def of_records(folder, slots):
+    """What is wrong with the records of two slots."""
+    file = pathlib.Path(folder) / journal.SLOTS[journal.place_read(slots)]
     try:
-        content = file.read_bytes()
-        journal.read(content)
-    except OSError as error:
-        return [f"{shown(file)}: {error.strerror}"]
-    except journal.BadHeader:
-        return [f"{shown(file)}: it is no journal (BadHeader): its first bytes are {content[:9].hex(' ')}, and those of a journal {journal.EMPTY.hex(' ')}"]
+        journal.read(*slots)
     except journal.BadRecord as fault:
-        gate, count = end_of_records(content)
-        where = f"its bytes end at {len(content):,}" if fault.args[0] > count else "its text is that of no entry"
-        return [f"{shown(file)}: record {fault.args[0]} is malformed (BadRecord): {where}; {count:,} records before byte {gate:,} are whole"]
+        records = records_of(slots)
+        gate, count = end_of_records(records)
+        size = len(file.read_bytes())
+        where = f"its bytes end at {size:,}" if fault.args[0] > count else "its text is that of no entry"
+        return [f"{shown(file)}: record {fault.args[0]} is malformed (BadRecord): {where}; {count:,} records before byte {size - len(records) + gate:,} are whole"]
     return []
+
+
+def of_journal(folder):
+    """What is wrong with the journal of a store. That there is none is no fault: the program makes one."""
+    for name in journal.SLOTS:
+        if found := of_slot(pathlib.Path(folder) / name):
+            return found
+    try:
+        slots = journal.slots_in(folder)
+        place = journal.place_read(slots)
+    except OSError as error:
+        return [f"{shown(error.filename)}: {error.strerror}"]
+    except journal.BadHeader:
+        return of_header(folder, slots)
+    if place is None:
+        is_used = any(name.startswith(("c-", "t-", journal.KEPT)) for name in os.listdir(folder))
+        return [f"{shown(folder)}: it has files of a store and no journal: it would begin with an empty history"] if is_used else []
+    return of_records(folder, slots)
 
 
 def fault_of(folder, digest):
@@ -150,8 +178,7 @@ def fault_of(folder, digest):
 
 def of_files(folder):
     """What is wrong with the files that a published deploy of a store lists, each with where it is listed; as the program, in the order of digests."""
-    file = pathlib.Path(folder) / "journal"
-    entries = journal.read(file.read_bytes()) if file.exists() else []
+    entries = journal.read_in(folder)
     published = {entry[2] for entry in entries if entry[0] in ("publish", "restore")}
     listed = {}
     for number, (kind, site, *parts) in enumerate(entries, 1):

@@ -1,6 +1,6 @@
 """The store that operate/follow copies: a folder of this machine, or one that another machine gives over a pipe.
 
-A store is read in this order: first the journal, to its end, then the names of files, then files. Files are only added, each by a renaming, so all that the
+A store is read in this order: first both slots of the journal, to their ends, then the names of files, then files. Files are only added, each by a renaming, so all that the
 journal needs is there by then.
 """
 
@@ -11,6 +11,7 @@ import re
 import subprocess
 
 import journal
+from shown_text import shown
 
 FILE = re.compile("[ct]-[0-9a-f]{40}")
 # How many files are asked for before the first of them is read: their names have room in a pipe.
@@ -25,20 +26,28 @@ class Fault(Exception):
         self.passes = passes
 
 
-def end_of_records(file):
-    """Where the closed gate is that ends a journal's records, and how many these are; None if the file has no header yet.
+def end_of_records(records):
+    """Where the closed gate is that ends records, each behind its gate, and how many these are; None if there isn't a gate yet.
 
     A record that isn't there whole after its open gate is taken for one that isn't written yet.
     """
-    if file[:len(journal.HEADER)] != journal.HEADER or len(file) < len(journal.EMPTY):
+    if not records:
         return None
-    gate, count = len(journal.HEADER), 0
-    while file[gate:gate + 1] == journal.OPEN:
-        after = gate + 5 + int.from_bytes(file[gate + 1:gate + 5], "big")
-        if len(file) <= after:
+    gate, count = 0, 0
+    while records[gate:gate + 1] == journal.OPEN:
+        after = gate + 5 + int.from_bytes(records[gate + 1:gate + 5], "big")
+        if len(records) <= after:
             break
         gate, count = after, count + 1
     return gate, count
+
+
+def records_of(slots):
+    """What follows the header of the slot that is read: records, each behind its gate, and the last gate. None if neither is in use."""
+    place = journal.place_read(slots)
+    if place is None:
+        return b""
+    return slots[place][len(journal.HEADERS[journal.generation_of(slots[place])]):]
 
 
 class Folder:
@@ -47,12 +56,16 @@ class Folder:
     def __init__(self, folder):
         self.folder = pathlib.Path(folder)
 
-    def journal_from(self, place):
-        """The SHA-256 of the journal's bytes before this place, and all that are from there on."""
-        with (self.folder / "journal").open("rb") as file:
-            # As `cat` reads it: to its end, however long it is by then.
-            before = file.read(place)
-            return hashlib.sha256(before).hexdigest(), file.read()
+    def records_from(self, place):
+        """The SHA-256 of the bytes of the journal's records before this place, and all that are from there on."""
+        # A folder that isn't there is told as that.
+        self.folder.stat()
+        # As `cat` reads them: each slot to its end, however long it is by then.
+        try:
+            records = records_of(journal.slots_in(self.folder))
+        except journal.BadHeader:
+            raise Fault(f"{shown(self.folder)} has no journal that opens (BadHeader): operate/why says more") from None
+        return hashlib.sha256(records[:place]).hexdigest(), records[place:]
 
     def names(self):
         return [file.name for file in self.folder.iterdir() if FILE.fullmatch(file.name)]
@@ -71,8 +84,8 @@ class Folder:
 
 def given(source, word, rest):
     """The answer to a line of a `Pipe`."""
-    if word == "journal" and rest.isdecimal():
-        digest, came = source.journal_from(int(rest))
+    if word == "records" and rest.isdecimal():
+        digest, came = source.records_from(int(rest))
         return f"{digest} {len(came)}\n".encode() + came
     if word == "names":
         names = source.names()
@@ -80,7 +93,7 @@ def given(source, word, rest):
     if word == "file" and FILE.fullmatch(rest):
         content = next(source.files([rest]))
         return b"-\n" if content is None else b"%d\n" % len(content) + content
-    return b"! it gives a journal, names and files of a store, and nothing else\n"
+    return b"! it gives records, names and files of a store, and nothing else\n"
 
 
 def give(folder, asked, out):
@@ -89,7 +102,7 @@ def give(folder, asked, out):
         word, _, rest = line.decode().strip().partition(" ")
         try:
             answer = given(Folder(folder), word, rest)
-        except OSError as error:
+        except (OSError, Fault) as error:
             answer = f"! {error}\n".encode()
         out.write(answer)
         out.flush()
@@ -123,8 +136,8 @@ class Pipe:
     def fail(self):
         raise Fault(f"the command that gives the store ended, with status {self.started.wait()}")
 
-    def journal_from(self, place):
-        self.ask(f"journal {place}")
+    def records_from(self, place):
+        self.ask(f"records {place}")
         digest, _, length = self.line().partition(" ")
         return digest, self.read(int(length))
 

@@ -109,13 +109,23 @@ def contract_of(top, crate, function):
     for file in sorted((top / "crates" / crate / "src").rglob("*.rt")):
         text = file.read_text()
         for found in re.finditer(rf"\bfn {re.escape(name)}\b", text):
-            blocks = re.findall(r"^impl\b[^{]*?(\w+)(?:<[^{]*>)? \{", text[:found.start()], re.MULTILINE)
-            if owner and owner not in blocks[-1:]:
+            if owner and owner != owner_at(text, found.start()):
                 continue
             clauses = clauses_at(text, found.end())
             if clauses:
                 return (clauses, *uses_of(text))
     return None
+
+
+def owner_at(text, place):
+    """The type of the last block of functions that begins before a place, without its parameters; or nothing."""
+    heads = re.findall(r"^impl\b([^{]*) \{", text[:place], re.MULTILINE)
+    if not heads:
+        return None
+    head, within = heads[-1], None
+    while head != within:
+        head, within = re.sub(r"<[^<>]*>", "", head), head
+    return head.split()[-1]
 
 
 def clauses_at(text, start):

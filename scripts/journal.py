@@ -1,4 +1,4 @@
-"""A reader and a writer of a journal's file, written from docs/STORAGE.md alone and apart from the crates' code.
+"""A reader and a writer of a journal's files, written from docs/STORAGE.md alone and apart from the crates' code.
 
 An entry is a tuple: its kind, its site, and what else it says. A listing of a deploy is a tuple of pairs, each a path and the
 hexadecimal digits of a digest, or None where the file is removed. In each number the highest byte comes first.
@@ -6,10 +6,18 @@ hexadecimal digits of a digest, or None where the file is removed. In each numbe
 
 import re
 
-HEADER = b"\x01FHJRNL\x01"
+# A file's own gate, which is open, and its header: that of version 1, and that of version 2, whose generation is 1.
+OLD_HEADER = b"\x01FHJRNL\x01"
+HEADER = b"\x01FHJRNL\x02" + (1).to_bytes(8, "big")
+HEADERS = (OLD_HEADER, HEADER)
 EMPTY = HEADER + b"\x00"
+SLOTS = ("journal", "journal.2")
+# How the names begin of files of the journal that were kept.
+KEPT = "journal.kept-"
 OPEN, SHUT = b"\x01", b"\x00"
 LONGEST_BODY = 10_470_070
+# How many bytes a record has beside its body: its length, and the gate behind it.
+AROUND_BODY = 5
 MOST_PATHS = 10_000
 MOST_RECORDS = 1_000_000
 GREATEST_NUMBER = 1_000_000
@@ -28,7 +36,7 @@ class BadEntry(Exception):
 
 
 class BadHeader(Exception):
-    """The file isn't a journal."""
+    """A slot in use has no header, or both have one generation."""
 
 
 class BadRecord(Exception):
@@ -148,9 +156,9 @@ def record(body):
     return OPEN + len(body).to_bytes(4, "big") + body
 
 
-def write(entries):
+def write(entries, header=HEADER):
     """The file that has these entries."""
-    return HEADER + b"".join(record(encode(entry)) for entry in entries) + SHUT
+    return header + b"".join(record(encode(entry)) for entry in entries) + SHUT
 
 
 def read_record(file, gate, number):
@@ -162,8 +170,9 @@ def read_record(file, gate, number):
     return file[gate + 5:gate + 5 + length]
 
 
-def read_records(file):
-    entries, gate = [], len(HEADER)
+def read_records(file, gate):
+    """The entries of the records from this gate on, and the place of the first gate that isn't open."""
+    entries = []
     while file[gate:gate + 1] == OPEN:
         number = len(entries) + 1
         body = read_record(file, gate, number)
@@ -175,16 +184,113 @@ def read_records(file):
     return entries, gate
 
 
-def opened(file):
-    """The entries of a file, and the bytes that it has after it was opened."""
-    if len(file) <= 1 or file[:1] == b"\x00" or (len(file) == len(EMPTY) and file[0] > 1 and file[1:] == EMPTY[1:]):
-        return [], EMPTY
-    if len(file) <= len(HEADER) or file[:len(HEADER)] != HEADER:
+def whole_records(file, gate):
+    """The entries of the whole records that follow one another from this gate on, whatever their gates are, each with whether its gate is open."""
+    found = []
+    try:
+        while True:
+            body = read_record(file, gate, len(found) + 1)
+            found.append((decode(body), file[gate:gate + 1] == OPEN))
+            gate += AROUND_BODY + len(body)
+    except (BadEntry, BadRecord):
+        return found
+
+
+def salvaged(file):
+    """What can be read of a file that was kept, whatever its first byte and its gates are: entries, each with whether its gate is open."""
+    return max((whole_records(file, len(header)) for header in HEADERS), key=len)
+
+
+def is_in_use(slot):
+    return len(slot) > 1 and slot[:1] == OPEN
+
+
+def generation_of(slot):
+    """The generation of the file in a slot, or -1 if the slot isn't in use."""
+    if not is_in_use(slot):
+        return -1
+    for generation, header in enumerate(HEADERS):
+        if len(slot) > len(header) and slot.startswith(header):
+            return generation
+    raise BadHeader
+
+
+def place_read(slots):
+    """Which of two slots is read, or None if neither is in use."""
+    one, other = map(generation_of, slots)
+    if one == other:
+        if one < 0:
+            return None
         raise BadHeader
-    entries, gate = read_records(file)
-    return entries, file[:gate] + SHUT
+    return 0 if one > other else 1
 
 
-def read(file):
-    """The entries of a file."""
-    return opened(file)[0]
+def opened(first, second=b""):
+    """The entries of two slots, and the bytes that each has after they were opened."""
+    slots = [first, second]
+    place = place_read(slots)
+    if place is None:
+        return [], (first[:1], EMPTY)
+    file = slots[place]
+    header = HEADERS[generation_of(file)]
+    entries, gate = read_records(file, len(header))
+    beside = slots[1 - place]
+    slots[1 - place] = beside if is_in_use(beside) else beside[:1]
+    new = HEADER + file[len(header):gate] + SHUT
+    slots[1 - place if header == OLD_HEADER else place] = new
+    return entries, tuple(slots)
+
+
+def may_be_unfinished(behind):
+    """Whether these bytes behind a closed gate may be all that a stop left of one record."""
+    if len(behind) < AROUND_BODY:
+        return True
+    if len(behind) > LONGEST_BODY + AROUND_BODY:
+        return False
+    length = int.from_bytes(behind[:4], "big")
+    return len(behind) - AROUND_BODY < length or behind == behind[:1] * len(behind)
+
+
+def loss_of(file, start, gate):
+    """What is dropped of a file from one place on: that place, how many bytes, and how many whole records follow one another from a gate on."""
+    return start, len(file) - start, len(whole_records(file, gate))
+
+
+def dropped(first, second=b""):
+    """What an opening drops of each of two slots, beyond what one unfinished record may have left: `loss_of` that, or None."""
+    slots = [first, second]
+    place = place_read(slots)
+    lost = [None, None]
+    for at, slot in enumerate(slots):
+        if not is_in_use(slot) and len(slot) > len(EMPTY):
+            headers = [header for header in HEADERS if slot[1:len(header)] == header[1:]]
+            lost[at] = loss_of(slot, 1, len(headers[0]) if headers else len(slot))
+    if place is not None:
+        file = slots[place]
+        gate = read_records(file, len(HEADERS[generation_of(file)]))[1]
+        if not may_be_unfinished(file[gate + 1:]):
+            lost[place] = loss_of(file, gate + 1, gate)
+    return tuple(lost)
+
+
+def read(first, second=b""):
+    """The entries of two slots."""
+    return opened(first, second)[0]
+
+
+def slots_in(folder):
+    """The bytes of both slots in a folder. One that isn't there has none."""
+    files = [folder / name for name in SLOTS]
+    return tuple(file.read_bytes() if file.exists() else b"" for file in files)
+
+
+def read_in(folder):
+    """The entries of the journal in a folder."""
+    return read(*slots_in(folder))
+
+
+def file_in(folder):
+    """The bytes of the file that is read in a folder, or none if there is no journal."""
+    slots = slots_in(folder)
+    place = place_read(slots)
+    return b"" if place is None else slots[place]

@@ -66,6 +66,14 @@ pub fn count() -> usize
 {
     0
 }
+
+impl<K: Keeps<E>, E: Drop> Counts for Pair<K, E> {
+    fn last(&self) -> usize
+        ensures { result ≡ more }
+    {
+        1
+    }
+}
 """
 
 
@@ -93,6 +101,8 @@ class OfASmallRepository(unittest.TestCase):
 
     def test_is_that_of_the_function_that_is_named(self):
         self.assertEqual(self.chain("count"), self.chain("Counter::count"))
+        self.assertIsNotNone(definitions.contract_of(self.top, "upper", "Pair::last"))
+        self.assertIsNone(definitions.contract_of(self.top, "upper", "Keeps::last"))
         self.assertIsNone(definitions.contract_of(self.top, "upper", "Counter::nothing"))
         self.assertIsNone(definitions.contract_of(self.top, "upper", "nothing"))
         self.assertIsNone(definitions.contract_of(self.top, "upper", "no_such_function"))

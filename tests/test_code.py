@@ -10,14 +10,14 @@ import unittest
 from lib.repository import TOP, crates
 
 FOLDERS = ("tests", "tests/lib", "scripts", "bench", "operate", "examples", "client/filehost_client")
+# One line that is still over 120 columns, in a crate that has no other.
+WIDE_LINE = "        (shelf : S) (limit : ℕ) (server : Server S D D.Disk) → Keeps S.did honest has → IsTrue (honest server.files.shelf)"
 # The crates in which some lines of clauses are still over 120 columns.
 WIDE = (
-    "byte_view", "chunk_reads", "blob_store", "http_wire", "range_reply", "persistent_collections", "site_state", "site_change", "touch_index", "change_undo",
-    "host_disk", "change_journal", "host_opening", "chunk_lru", "single_flight", "peer_ring", "peer_link", "chunk_group", "host_api", "command_line",
-    "world_read", "core_tests",
+    "byte_view", "chunk_reads", "blob_store", "http_wire", "range_reply", "persistent_lists", "persistent_maps", "site_state", "site_change", "touch_index",
+    "change_undo", "host_disk", "record_file", "entry_texts", "change_journal", "host_opening", "chunk_lru", "single_flight", "peer_ring", "peer_link",
+    "chunk_group", "host_api", "command_line", "world_read", "core_tests",
 )
-# The libraries with more than 110 functions: the layers of the journal are folders of one crate.
-LARGE = ("change_journal",)
 
 
 class Rattle(unittest.TestCase):
@@ -37,7 +37,7 @@ class Rattle(unittest.TestCase):
         longer = set()
         for file in self.files:
             for found in re.finditer(r"(?ms)^( *)(?:pub(?:\(crate\))? )?fn (\w+).*?^\1\{?\}$", file.read_text()):
-                if found[0].count("\n") - len(lines_of_clauses(found[0])) >= 40:
+                if has_body(found[0]) and found[0].count("\n") - len(lines_of_clauses(found[0])) >= 40:
                     longer.add(f"{file.relative_to(TOP)}: {found[2]}")
         self.assertEqual(longer, set())
 
@@ -51,18 +51,35 @@ class Rattle(unittest.TestCase):
             counted = sum(len(re.findall(r"\bfn \w+", text)) for text in texts)
             with self.subTest(name):
                 self.assertGreater(counted, 0)
-                if name not in LARGE and not name.endswith(("_tests", "_driver")):
+                if not name.endswith(("_tests", "_driver")):
                     self.assertLessEqual(counted, 110)
 
     def test_has_clauses_that_need_no_scrolling(self):
         for name in crates().keys() - WIDE:
-            wide = [f"{file.name}: {line}" for file in self.files_of(name) for line in lines_of_clauses(file.read_text()) if len(line) > 120]
+            wide = [f"{file.name}: {line}" for file in self.files_of(name) for line in lines_of_clauses(file.read_text()) if len(line) > 120 and line != WIDE_LINE]
             with self.subTest(name):
                 self.assertEqual(wide, [])
 
     def test_looks_at_each_line_of_a_clause(self):
         text = "/// f\nfn f()\n    requires { a\n        → b }\n    ensures c { g {h} }\n{}\n    ghost k = { l };\n    ghost fn m() {\n"
         self.assertEqual(lines_of_clauses(text), ["    requires { a", "        → b }", "    ensures c { g {h} }", "    ghost k = { l };"])
+
+    def test_tells_a_function_that_a_trait_declares_from_one_with_a_body(self):
+        self.assertFalse(has_body("    fn f(&self) -> u8\n        ensures { a {\n            b } };\n\n    fn g() {\n"))
+        self.assertFalse(has_body("    fn f(&self);\n    fn g() {\n"))
+        self.assertTrue(has_body("    fn f(&self) -> u8\n        ensures { a }\n    {\n        g();\n"))
+        self.assertTrue(has_body("    fn f(&self) {\n        g();\n"))
+
+
+def has_body(text):
+    """Whether the function at the front of a text has a body: one that a trait declares ends in a semicolon."""
+    clauses = lines_of_clauses(text)
+    for line in text.splitlines():
+        if line.endswith(";"):
+            return False
+        if line.endswith("{") and line not in clauses:
+            return True
+    return True
 
 
 def lines_of_clauses(text):

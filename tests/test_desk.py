@@ -99,7 +99,7 @@ class Openings(AtDesk):
         self.assertEqual(self.read_journal(), before)
 
     def test_end_where_an_entry_is_not_accepted_in_its_place(self):
-        self.assertEqual(len(journal.write([CANCEL] * 3)), 63)
+        self.assertEqual(len(journal.write([CANCEL] * 3)), 71)
         self.assert_not_opened([CANCEL] * 3, "NotLegal(1)")
         self.assert_not_opened([OPEN, UNDO_99], "NotLegal(2)")
         self.assert_not_opened([OPEN, CANCEL, CANCEL], "NotLegal(3)")

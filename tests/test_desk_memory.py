@@ -12,6 +12,7 @@ from lib.client import SECONDS
 from lib.desks import AtDesk, Look, entering, uploading
 from lib.refused_allocations import SOURCE
 from lib.stores import opening_of
+import journal
 
 OPEN = opening_of({"/a.txt": b"hello"})
 PUBLISH, REMOVE, UNDO_2 = ("publish", "one", 1), ("remove", "one", "/a.txt"), ("undo", "one", 2)
@@ -34,7 +35,7 @@ class Memory(AtDesk):
         shutil.copytree(self.folder, self.copy)
         names |= {"LD_PRELOAD": str(self.library), "REFUSED_PLACE": str(place), "ALLOCATIONS_FILE": str(counted)}
         status, printed, _ = self.run_lines("steps", lines, folder=self.copy, env=os.environ | names)
-        found = (self.copy / "journal").read_bytes()
+        found = journal.file_in(self.copy)
         shutil.rmtree(self.copy)
         return status, printed, found, int(counted.read_text())
 

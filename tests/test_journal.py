@@ -33,12 +33,19 @@ def numbered(number):
 
 
 ENTRIES = [numbered(number) for number in range(1, 201)]
+OPENING = ["fsync folder", "fdatasync journal", "fdatasync journal.2"]
+
+
+def filled(name, file):
+    """The calls that close a slot of at most a byte, write the rest of this file behind its gate, and show it."""
+    sync = f"fdatasync {name}"
+    return [f"pwrite {name} 0 00", sync, f"pwrite {name} 1 {file[1:].hex()}", sync, f"pwrite {name} 0 01", sync]
 
 
 def changed(draw, file):
     """The file with some bytes changed, added or cut, more often at its gates and its end."""
     file = bytearray(file)
-    gates = [0, 8, len(file) - 1]
+    gates = [0, 8, 16, len(file) - 1]
     for _ in range(draw.randrange(1, 3)):
         place = draw.choice([*gates, draw.randrange(len(file)), draw.randrange(len(file))]) if file else 0
         how = draw.randrange(4)
@@ -56,28 +63,38 @@ def changed(draw, file):
 class Files(Journals):
     def test_writes_what_the_format_says(self):
         self.assertEqual(self.run_program("write", self.file, str(len(ENTRIES))), f"{len(ENTRIES)} entries")
-        file = self.file.read_bytes()
-        self.assertEqual(journal.read(file), ENTRIES)
-        self.assertEqual(file, journal.write(ENTRIES))
+        self.assertEqual(journal.read_in(self.folder), ENTRIES)
+        self.assertEqual(journal.slots_in(self.folder), (b"", journal.write(ENTRIES)))
 
     def test_puts_after_what_is_there(self):
         file = journal.write(ENTRIES[:50])
         self.file.write_bytes(file + b"the end of an entry that was being put")
         self.run_program("put", self.file, "3")
-        self.assertEqual(self.file.read_bytes(), journal.write([*ENTRIES[:50], CANCEL, CANCEL, CANCEL]))
+        self.assertEqual(journal.slots_in(self.folder), (journal.write([*ENTRIES[:50], CANCEL, CANCEL, CANCEL]), b""))
+
+    def test_brings_a_file_of_version_1_over_and_leaves_it_as_it_is(self):
+        file = journal.write(ENTRIES, journal.OLD_HEADER) + b"the end of an entry that was being put"
+        self.file.write_bytes(file)
+        for entries in (ENTRIES, [*ENTRIES, CANCEL], [*ENTRIES, CANCEL, CANCEL]):
+            self.assertEqual(self.open(), f"{len(entries)} entries")
+            self.assertEqual(journal.slots_in(self.folder), (file, journal.write(entries)))
+            self.run_program("put", self.file, "1")
 
     def test_opens_what_the_format_says(self):
         entry = journal.write([("cancel", "one", 1)])
         files = [journal.EMPTY, journal.write(ENTRIES), b"", *(entry[:size] for size in range(len(entry)))]
-        self.assert_opened([(file, *told(file)) for file in files])
+        self.assert_opened([((file, b""), *told(file)) for file in files])
 
     def test_opens_files_that_were_changed_by_chance(self):
         draw = random.Random(8)
         rows = []
         for _ in range(400):
             first = draw.randrange(len(ENTRIES))
-            file = changed(draw, journal.write(ENTRIES[first:first + draw.randrange(4)]))
-            rows.append((file, *told(file)))
+            header = draw.choice(journal.HEADERS)
+            file = changed(draw, journal.write(ENTRIES[first:first + draw.randrange(4)], header))
+            beside = changed(draw, draw.choice([b"", journal.EMPTY, journal.write([], journal.OLD_HEADER)]))
+            slots = draw.choice([(file, beside), (beside, file), (file, b"")])
+            rows.append((slots, *told(*slots)))
         self.assert_opened(rows)
 
     def test_opens_the_most_records_and_no_more(self):
@@ -88,10 +105,12 @@ class Files(Journals):
             self.assertEqual(self.open(), answer)
 
     def test_leaves_a_file_that_another_process_has_open(self):
-        self.file.write_bytes(journal.EMPTY)
-        with self.file.open("rb") as file:
-            fcntl.flock(file, fcntl.LOCK_EX)
-            self.assertEqual(self.open(), "Device")
+        for name, slot in zip(journal.SLOTS, (journal.EMPTY, b"")):
+            (self.folder / name).write_bytes(slot)
+        for name in journal.SLOTS:
+            with (self.folder / name).open("rb") as file:
+                fcntl.flock(file, fcntl.LOCK_EX)
+                self.assertEqual(self.open(), "Device")
         self.assertEqual(self.open(), "0 entries")
 
     def test_tells_of_a_device_that_is_no_file(self):
@@ -108,7 +127,7 @@ class Calls(Journals):
 
     def trace(self, *words):
         lines = self.traces.of(lambda environment: self.run_program(*words, env=environment))
-        return [line for line in lines if line.split(" ")[1] in ("journal", "folder")]
+        return [line for line in lines if line.split(" ")[1] in (*journal.SLOTS, "folder")]
 
     def test_a_put_is_two_writes_each_with_a_sync(self):
         file = journal.write(ENTRIES[:7])
@@ -116,31 +135,30 @@ class Calls(Journals):
         body = journal.encode(CANCEL)
         gate = len(file) - 1
         record = (len(body).to_bytes(4, "big") + body + b"\x00").hex()
-        opening = ["fsync folder", "fdatasync journal"]
         put = [f"pwrite journal {gate + 1} {record}", "fdatasync journal", f"pwrite journal {gate} 01", "fdatasync journal"]
-        self.assertEqual(self.trace("put", self.file, "1"), opening + put)
+        self.assertEqual(self.trace("put", self.file, "1"), OPENING + put)
 
-    def test_a_file_is_synced_with_its_folder_when_it_is_opened(self):
-        made = [
-            "fsync folder", "fdatasync journal",
-            "pwrite journal 0 00", "fdatasync journal",
-            "pwrite journal 1 46484a524e4c0100", "fdatasync journal",
-            "pwrite journal 0 01", "fdatasync journal",
-        ]
-        self.assertEqual(self.trace("open", self.file, "1"), made)
-        self.assertEqual(self.trace("open", self.file, "1"), ["fsync folder", "fdatasync journal"])
+    def test_files_are_synced_with_their_folder_when_they_are_opened(self):
+        self.assertEqual(self.trace("open", self.file, "1"), OPENING + filled("journal.2", journal.EMPTY))
+        self.assertEqual(self.trace("open", self.file, "1"), OPENING)
+
+    def test_a_file_is_brought_over_in_three_steps(self):
+        self.file.write_bytes(journal.write(ENTRIES[:2], journal.OLD_HEADER))
+        (self.folder / "journal.2").write_bytes(b"\x07what a stop left")
+        cut = ["ftruncate journal.2 1", "fdatasync journal.2"]
+        self.assertEqual(self.trace("open", self.file, "1"), OPENING + cut + filled("journal.2", journal.write(ENTRIES[:2])))
 
     def test_what_a_stop_left_is_shut_and_cut(self):
         file = journal.write(ENTRIES[:2])
         self.file.write_bytes(file[:-1] + b"\x07tail")
         gate = len(file) - 1
         mended = [f"pwrite journal {gate} 00", "fdatasync journal", f"ftruncate journal {gate + 1}", "fdatasync journal"]
-        self.assertEqual(self.trace("open", self.file, "1"), ["fsync folder", "fdatasync journal", *mended])
+        self.assertEqual(self.trace("open", self.file, "1"), OPENING + mended)
 
     def test_nothing_is_written_to_a_file_that_is_not_a_journal(self):
-        for file in (b"a file of another kind", journal.write(ENTRIES)[:100]):
+        for file in (b"\x01 file of another kind", journal.write(ENTRIES)[:100]):
             self.file.write_bytes(file)
-            self.assertEqual(self.trace("open", self.file, "1"), ["fsync folder", "fdatasync journal"])
+            self.assertEqual(self.trace("open", self.file, "1"), OPENING)
 
 
 class Reader(unittest.TestCase):
@@ -154,10 +172,11 @@ class Reader(unittest.TestCase):
             self.assertRaises(journal.BadEntry, journal.decode, wrong)
 
     def test_three_entries(self):
-        file = journal.write([("cancel", "one", 1)] * 3)
-        self.assertEqual(len(file), 63)
-        self.assertEqual([place for place in (8, 26, 44, 62) if file[place] == (place < 62)], [8, 26, 44, 62])
-        self.assertEqual(len(journal.read(file[:44] + b"\x07" + file[45:])), 2)
+        for header, size, gates in ((journal.OLD_HEADER, 63, [8, 26, 44, 62]), (journal.HEADER, 71, [16, 34, 52, 70])):
+            file = journal.write([("cancel", "one", 1)] * 3, header)
+            self.assertEqual(len(file), size)
+            self.assertEqual([file[gate] for gate in gates], [1, 1, 1, 0])
+            self.assertEqual(len(journal.read(file[:gates[2]] + b"\x07" + file[gates[2] + 1:])), 2)
 
 
 if __name__ == "__main__":

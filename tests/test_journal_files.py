@@ -77,65 +77,104 @@ NO_TEXTS = [
     ("paths that fall", "01 03 6f6e65 01 00000002 0002 2f62 00 0002 2f61 00"),
 ]
 
-# A file, what is opened of it, and the file after that; without one it stays.
+# The files of both slots, what is opened of them, and both after that; without these they stay. First come files of version 1, then those of
+# version 2, and then which of two is read.
 FILES = """\
-| 0 entries | 0146484a524e4c01 00
-00 | 0 entries | 0146484a524e4c01 00
-01 | 0 entries | 0146484a524e4c01 00
-07 | 0 entries | 0146484a524e4c01 00
-00 46484a | 0 entries | 0146484a524e4c01 00
-00 46484a524e4c01 00 | 0 entries | 0146484a524e4c01 00
-00 46484a524e4c01 01 0000000d 03036f6e650000000000000001 00 | 0 entries | 0146484a524e4c01 00
-00 0000000000000000000000000000 | 0 entries | 0146484a524e4c01 00
-0146484a524e4c01 00 | 0 entries |
-0246484a524e4c01 00 | 0 entries | 0146484a524e4c01 00
-ff46484a524e4c01 00 | 0 entries | 0146484a524e4c01 00
-0246484a524e4c01 01 | BadHeader |
-0246484a524e4c01 02 | BadHeader |
-0246484a524e4c01 00 00 | BadHeader |
-0246484a524e4c01 | BadHeader |
-0246 | BadHeader |
-0246484a524e4c02 00 | BadHeader |
-0246484a524e4d01 00 | BadHeader |
-0146 | BadHeader |
-0146484a524e4c01 | BadHeader |
-0146484a524e4c02 00 | BadHeader |
-0146484a524e4c00 00 | BadHeader |
-0146484a524e4c02 01 0000000d 03036f6e650000000000000001 00 | BadHeader |
-0147484a524e4c01 00 | BadHeader |
-0146484a524e6c01 00 | BadHeader |
-2346484a524e4c01 01 0000000d 03036f6e650000000000000001 00 | BadHeader |
-0146484a524e4c01 07 | 0 entries | 0146484a524e4c01 00
-0146484a524e4c01 00 0000 | 0 entries | 0146484a524e4c01 00
-0146484a524e4c01 ff 0000 | 0 entries | 0146484a524e4c01 00
-0146484a524e4c01 00 0000000d 03036f6e650000000000000001 00 | 0 entries | 0146484a524e4c01 00
-0146484a524e4c01 00 0000000d 03036f6e650000000000000001 01 | 0 entries | 0146484a524e4c01 00
-0146484a524e4c01 02 0000000d 03036f6e650000000000000001 00 | 0 entries | 0146484a524e4c01 00
-0146484a524e4c01 02 0000000d 03036f6e65000000 | 0 entries | 0146484a524e4c01 00
-0146484a524e4c01 01 0000000d 03036f6e650000000000000001 00 | 1 entries |
-0146484a524e4c01 01 0000000d 03036f6e650000000000000001 09 | 1 entries | 0146484a524e4c01 01 0000000d 03036f6e650000000000000001 00
-0146484a524e4c01 01 0000000d 03036f6e650000000000000001 00 01 | 1 entries | 0146484a524e4c01 01 0000000d 03036f6e650000000000000001 00
-0146484a524e4c01 01 | BadRecord 1 |
-0146484a524e4c01 01 0000000d 03036f6e650000000000000001 | BadRecord 1 |
-0146484a524e4c01 01 0000000c 03036f6e650000000000000001 00 | BadRecord 1 |
-0146484a524e4c01 01 0000000e 03036f6e650000000000000001 00 | BadRecord 1 |
-0146484a524e4c01 01 00000000 00 | BadRecord 1 |
-0146484a524e4c01 01 ffffffff 00 | BadRecord 1 |
-0146484a524e4c01 01 0000000d 03036f6e650000000000000000 00 | BadRecord 1 |
-0146484a524e4c01 01 0000000d 03036f6e6500000000000f4241 00 | BadRecord 1 |
-0146484a524e4c01 01 0000000d 03036f6e650000000000000001 01 | BadRecord 2 |
-0146484a524e4c01 01 0000000d 03036f6e650000000000000001 01 00000001 00 00 | BadRecord 2 |"""
+ / | 0 entries |  / 0146484a524e4c02 0000000000000001 00
+00 / | 0 entries | 00 / 0146484a524e4c02 0000000000000001 00
+01 / | 0 entries | 01 / 0146484a524e4c02 0000000000000001 00
+07 / | 0 entries | 07 / 0146484a524e4c02 0000000000000001 00
+00 46484a / | 0 entries | 00 / 0146484a524e4c02 0000000000000001 00
+00 46484a524e4c01 00 / | 0 entries | 00 / 0146484a524e4c02 0000000000000001 00
+00 46484a524e4c01 01 0000000d 03036f6e650000000000000001 00 / | 0 entries | 00 / 0146484a524e4c02 0000000000000001 00
+00 0000000000000000000000000000 / | 0 entries | 00 / 0146484a524e4c02 0000000000000001 00
+0146484a524e4c01 00 / | 0 entries | 0146484a524e4c01 00 / 0146484a524e4c02 0000000000000001 00
+0246484a524e4c01 00 / | 0 entries | 02 / 0146484a524e4c02 0000000000000001 00
+ff46484a524e4c01 00 / | 0 entries | ff / 0146484a524e4c02 0000000000000001 00
+0246484a524e4c01 01 / | 0 entries | 02 / 0146484a524e4c02 0000000000000001 00
+0246484a524e4c01 02 / | 0 entries | 02 / 0146484a524e4c02 0000000000000001 00
+0246484a524e4c01 00 00 / | 0 entries | 02 / 0146484a524e4c02 0000000000000001 00
+0246484a524e4c01 / | 0 entries | 02 / 0146484a524e4c02 0000000000000001 00
+0246 / | 0 entries | 02 / 0146484a524e4c02 0000000000000001 00
+0246484a524e4c02 00 / | 0 entries | 02 / 0146484a524e4c02 0000000000000001 00
+0246484a524e4d01 00 / | 0 entries | 02 / 0146484a524e4c02 0000000000000001 00
+0146 / | BadHeader |
+0146484a524e4c01 / | BadHeader |
+0146484a524e4c02 00 / | BadHeader |
+0146484a524e4c00 00 / | BadHeader |
+0146484a524e4c02 01 0000000d 03036f6e650000000000000001 00 / | BadHeader |
+0147484a524e4c01 00 / | BadHeader |
+0146484a524e6c01 00 / | BadHeader |
+2346484a524e4c01 01 0000000d 03036f6e650000000000000001 00 / | 0 entries | 23 / 0146484a524e4c02 0000000000000001 00
+0146484a524e4c01 07 / | 0 entries | 0146484a524e4c01 07 / 0146484a524e4c02 0000000000000001 00
+0146484a524e4c01 00 0000 / | 0 entries | 0146484a524e4c01 00 0000 / 0146484a524e4c02 0000000000000001 00
+0146484a524e4c01 ff 0000 / | 0 entries | 0146484a524e4c01 ff 0000 / 0146484a524e4c02 0000000000000001 00
+0146484a524e4c01 00 0000000d 03036f6e650000000000000001 00 / | 0 entries | 0146484a524e4c01 00 0000000d 03036f6e650000000000000001 00 / 0146484a524e4c02 0000000000000001 00
+0146484a524e4c01 00 0000000d 03036f6e650000000000000001 01 / | 0 entries | 0146484a524e4c01 00 0000000d 03036f6e650000000000000001 01 / 0146484a524e4c02 0000000000000001 00
+0146484a524e4c01 02 0000000d 03036f6e650000000000000001 00 / | 0 entries | 0146484a524e4c01 02 0000000d 03036f6e650000000000000001 00 / 0146484a524e4c02 0000000000000001 00
+0146484a524e4c01 02 0000000d 03036f6e65000000 / | 0 entries | 0146484a524e4c01 02 0000000d 03036f6e65000000 / 0146484a524e4c02 0000000000000001 00
+0146484a524e4c01 01 0000000d 03036f6e650000000000000001 00 / | 1 entries | 0146484a524e4c01 01 0000000d 03036f6e650000000000000001 00 / 0146484a524e4c02 0000000000000001 01 0000000d 03036f6e650000000000000001 00
+0146484a524e4c01 01 0000000d 03036f6e650000000000000001 09 / | 1 entries | 0146484a524e4c01 01 0000000d 03036f6e650000000000000001 09 / 0146484a524e4c02 0000000000000001 01 0000000d 03036f6e650000000000000001 00
+0146484a524e4c01 01 0000000d 03036f6e650000000000000001 00 01 / | 1 entries | 0146484a524e4c01 01 0000000d 03036f6e650000000000000001 00 01 / 0146484a524e4c02 0000000000000001 01 0000000d 03036f6e650000000000000001 00
+0146484a524e4c01 01 / | BadRecord 1 |
+0146484a524e4c01 01 0000000d 03036f6e650000000000000001 / | BadRecord 1 |
+0146484a524e4c01 01 0000000c 03036f6e650000000000000001 00 / | BadRecord 1 |
+0146484a524e4c01 01 0000000e 03036f6e650000000000000001 00 / | BadRecord 1 |
+0146484a524e4c01 01 00000000 00 / | BadRecord 1 |
+0146484a524e4c01 01 ffffffff 00 / | BadRecord 1 |
+0146484a524e4c01 01 0000000d 03036f6e650000000000000000 00 / | BadRecord 1 |
+0146484a524e4c01 01 0000000d 03036f6e6500000000000f4241 00 / | BadRecord 1 |
+0146484a524e4c01 01 0000000d 03036f6e650000000000000001 01 / | BadRecord 2 |
+0146484a524e4c01 01 0000000d 03036f6e650000000000000001 01 00000001 00 00 / | BadRecord 2 |
+0146484a524e4c02 0000000000000001 00 / | 0 entries |
+0146484a524e4c02 0000000000000001 07 / | 0 entries | 0146484a524e4c02 0000000000000001 00 /
+0146484a524e4c02 0000000000000001 00 0000 / | 0 entries | 0146484a524e4c02 0000000000000001 00 /
+0146484a524e4c02 0000000000000001 ff 0000 / | 0 entries | 0146484a524e4c02 0000000000000001 00 /
+0146484a524e4c02 0000000000000001 00 0000000d 03036f6e650000000000000001 00 / | 0 entries | 0146484a524e4c02 0000000000000001 00 /
+0146484a524e4c02 0000000000000001 00 0000000d 03036f6e650000000000000001 01 / | 0 entries | 0146484a524e4c02 0000000000000001 00 /
+0146484a524e4c02 0000000000000001 02 0000000d 03036f6e650000000000000001 00 / | 0 entries | 0146484a524e4c02 0000000000000001 00 /
+0146484a524e4c02 0000000000000001 02 0000000d 03036f6e65000000 / | 0 entries | 0146484a524e4c02 0000000000000001 00 /
+0146484a524e4c02 0000000000000001 01 0000000d 03036f6e650000000000000001 00 / | 1 entries |
+0146484a524e4c02 0000000000000001 01 0000000d 03036f6e650000000000000001 09 / | 1 entries | 0146484a524e4c02 0000000000000001 01 0000000d 03036f6e650000000000000001 00 /
+0146484a524e4c02 0000000000000001 01 0000000d 03036f6e650000000000000001 00 01 / | 1 entries | 0146484a524e4c02 0000000000000001 01 0000000d 03036f6e650000000000000001 00 /
+ / 0146484a524e4c02 0000000000000001 01 | BadRecord 1 |
+ / 0146484a524e4c02 0000000000000001 01 0000000d 03036f6e650000000000000001 | BadRecord 1 |
+ / 0146484a524e4c02 0000000000000001 01 0000000c 03036f6e650000000000000001 00 | BadRecord 1 |
+ / 0146484a524e4c02 0000000000000001 01 0000000e 03036f6e650000000000000001 00 | BadRecord 1 |
+ / 0146484a524e4c02 0000000000000001 01 00000000 00 | BadRecord 1 |
+ / 0146484a524e4c02 0000000000000001 01 ffffffff 00 | BadRecord 1 |
+ / 0146484a524e4c02 0000000000000001 01 0000000d 03036f6e650000000000000000 00 | BadRecord 1 |
+ / 0146484a524e4c02 0000000000000001 01 0000000d 03036f6e6500000000000f4241 00 | BadRecord 1 |
+ / 0146484a524e4c02 0000000000000001 01 0000000d 03036f6e650000000000000001 01 | BadRecord 2 |
+ / 0146484a524e4c02 0000000000000001 01 0000000d 03036f6e650000000000000001 01 00000001 00 00 | BadRecord 2 |
+0146484a524e4c02 0000000000000001 / | BadHeader |
+0146484a524e4c02 0000000000000000 00 / | BadHeader |
+0146484a524e4c02 0000000000000002 00 / | BadHeader |
+0146484a524e4c02 0100000000000001 00 / | BadHeader |
+0146484a524e4c03 0000000000000002 00 / | BadHeader |
+0146484a524e4c02 0000000000000001 00 / 0146484a524e4c02 0000000000000001 00 | BadHeader |
+0146484a524e4c01 00 / 0146484a524e4c01 00 | BadHeader |
+0146484a524e4c02 0000000000000001 00 / 0146 | BadHeader |
+0146484a524e4c01 00 / 0100 | BadHeader |
+0146484a524e4c01 01 0000000d 03036f6e650000000000000001 00 / 0146484a524e4c02 0000000000000001 00 | 0 entries |
+0146484a524e4c02 0000000000000001 00 / 0146484a524e4c01 01 0000000d 03036f6e650000000000000001 00 | 0 entries |
+0146484a524e4c01 01 / 0146484a524e4c02 0000000000000001 00 | 0 entries |
+0146484a524e4c02 0000000000000001 00 / 00 46484a | 0 entries | 0146484a524e4c02 0000000000000001 00 / 00
+07 46484a / 0146484a524e4c02 0000000000000001 00 | 0 entries | 07 / 0146484a524e4c02 0000000000000001 00
+00 46484a / 0146484a524e4c01 00 | 0 entries | 0146484a524e4c02 0000000000000001 00 / 0146484a524e4c01 00
+ / 00 46484a | 0 entries | / 0146484a524e4c02 0000000000000001 00"""
 
-# Three equal entries, and the places of the gates.
-THREE = bytes.fromhex("0146484a524e4c01" + "01 0000000d 03036f6e650000000000000001" * 3 + "00")
-GATES = (8, 26, 44, 62)
+# Three equal entries in each version, and the places of the gates in the one and in the other.
+OLD_THREE, THREE = (bytes.fromhex(header + "01 0000000d 03036f6e650000000000000001" * 3 + "00")
+                    for header in ("0146484a524e4c01", "0146484a524e4c020000000000000001"))
+OLD_GATES, GATES = (8, 26, 44, 62), (16, 34, 52, 70)
 
-# The byte at the third of these gates, the least and the greatest number of bytes to which the file is cut, what is opened of it, and how
-# many of its bytes are kept, before a closed gate is put there; without a number it stays.
+# The byte at the third of these gates in the older file, the least and the greatest number of bytes to which that is cut, what is opened of it, and
+# how many of its bytes are kept, before a closed gate is put there; without a number it stays. Each place of the newer one is 8 bytes further on.
 CUTS = [
     (0, 45, 63, "2 entries", 44),
     (7, 45, 63, "2 entries", 44),
-    (1, 63, 63, "3 entries", None),
+    (1, 63, 63, "3 entries", 62),
     (1, 45, 62, "BadRecord 3", None),
     (1, 27, 44, "BadRecord 2", None),
     (1, 9, 26, "BadRecord 1", None),
@@ -152,11 +191,16 @@ def texts():
     return [(bytes.fromhex(digits), entry) for digits, entry in TEXTS]
 
 
+def slots_of(text):
+    """The bytes of two slots, whose digits have a slash between them."""
+    return tuple(bytes.fromhex(digits) for digits in text.split("/"))
+
+
 def files():
     """The rows of `FILES`."""
     for row in FILES.splitlines():
-        file, answer, after = (part.strip() for part in row.split("|"))
-        yield bytes.fromhex(file), answer, bytes.fromhex(after or file)
+        before, answer, after = (part.strip() for part in row.split("|"))
+        yield slots_of(before), answer, slots_of(after or before)
 
 
 def with_byte(file, place, byte):
@@ -164,12 +208,25 @@ def with_byte(file, place, byte):
 
 
 def cuts():
-    """The files of `CUTS`."""
+    """The files of `CUTS` in each version, in the first slot."""
     for byte, least, greatest, answer, kept in CUTS:
         for size in range(least, greatest + 1):
-            file = with_byte(THREE, GATES[2], byte)[:size]
-            yield file, answer, file if kept is None else file[:kept] + journal.SHUT
-    yield from ((THREE[:size], "0 entries", journal.EMPTY) for size in (0, 1))
+            old = with_byte(OLD_THREE, OLD_GATES[2], byte)[:size]
+            new = with_byte(THREE, GATES[2], byte)[:size + 8]
+            mended = b"" if kept is None else THREE[:kept + 8] + journal.SHUT
+            yield (old, b""), answer, (old, mended)
+            yield (new, b""), answer, (mended or new, b"")
+    yield from (((THREE[:size], b""), "0 entries", (THREE[:size], journal.EMPTY)) for size in (0, 1))
+
+
+def opened_alone(files):
+    """The rows of files in the first slot, by the reader in journal.py."""
+    return [((file, b""), *told(file)) for file in files]
+
+
+def alone(answer, *files):
+    """The rows of files in the first slot that are opened so, and stay as they are."""
+    return [((file, b""), answer, (file, b"")) for file in files]
 
 
 def changed(draw, text):
@@ -219,9 +276,9 @@ class Reader(unittest.TestCase):
                 self.assertRaises(journal.BadEntry, journal.decode, bytes.fromhex(digits))
 
     def test_files(self):
-        for file, answer, after in [*files(), *cuts()]:
-            with self.subTest(file.hex()):
-                self.assertEqual(told(file), (answer, after))
+        for slots, answer, after in [*files(), *cuts()]:
+            with self.subTest([slot.hex() for slot in slots]):
+                self.assertEqual(told(*slots), (answer, after))
 
     def test_the_largest_entry(self):
         text = opening(10_000, 1_024)
@@ -241,20 +298,19 @@ class Texts(Journals):
     """What is opened of a file with one entry."""
 
     def test_each_kind_of_entry_has_its_text(self):
-        self.assert_opened([(file_of(text), "1 entries", file_of(text)) for text, _ in texts()])
+        self.assert_opened(alone("1 entries", *(file_of(text) for text, _ in texts())))
 
     def test_other_bytes_are_the_text_of_none(self):
-        found = [file_of(bytes.fromhex(digits)) for _, digits in NO_TEXTS]
-        self.assert_opened([(file, "BadRecord 1", file) for file in found])
+        self.assert_opened(alone("BadRecord 1", *(file_of(bytes.fromhex(digits)) for _, digits in NO_TEXTS)))
 
     def test_all_texts_of_which_a_byte_is_changed(self):
         found = [texts_near(text) for text, _ in texts()]
-        self.assert_opened([(file_of(*near), f"{len(near)} entries", file_of(*near)) for near in found])
+        self.assert_opened([row for near in found for row in alone(f"{len(near)} entries", file_of(*near))])
 
     def test_texts_that_are_changed_by_chance(self):
         draw = random.Random(9)
         found = [file_of(changed(draw, text)) for text, _ in texts() for _ in range(150)]
-        rows = [(file, *told(file)) for file in found]
+        rows = opened_alone(found)
         self.assertEqual({answer for _, answer, _ in rows}, {"1 entries", "BadRecord 1"})
         self.assert_opened(rows)
 
@@ -262,8 +318,7 @@ class Texts(Journals):
         largest = opening(10_000, 1_024)
         longer = journal.HEADER + journal.OPEN + (10_470_071).to_bytes(4, "big") + largest + b"\x00\x00"
         wrong = [longer, *(file_of(opening(*sizes)) for sizes in ((10_001, 1_024), (10_001, 7), (1, 1_025)))]
-        rows = [(file_of(largest), "1 entries", file_of(largest)), *((file, "BadRecord 1", file) for file in wrong)]
-        self.assert_opened(rows)
+        self.assert_opened([*alone("1 entries", file_of(largest)), *alone("BadRecord 1", *wrong)])
 
 
 class Openings(Journals):
@@ -276,8 +331,9 @@ class Openings(Journals):
         self.assert_opened(list(cuts()))
 
     def test_each_gate_may_be_another_byte_and_each_end_be_cut(self):
-        found = {with_byte(THREE, gate, byte)[:size] for gate in (0, *GATES) for byte in (0, 1, 2, 7, 255) for size in range(64)}
-        self.assert_opened([(file, *told(file)) for file in sorted(found)])
+        found = {with_byte(file, gate, byte)[:size] for file, gates in ((OLD_THREE, OLD_GATES), (THREE, GATES)) for gate in (0, *gates)
+                 for byte in (0, 1, 2, 7, 255) for size in range(len(file) + 1)}
+        self.assert_opened(opened_alone(sorted(found)))
 
 
 if __name__ == "__main__":

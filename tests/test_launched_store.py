@@ -40,7 +40,7 @@ class FileSizes(Served):
         return started
 
     def assert_small_is_stored(self):
-        self.assertEqual({file.name for file in self.store.iterdir()}, {"journal", *files_of(SMALL)})
+        self.assertEqual({file.name for file in self.store.iterdir()}, {"journal", "journal.2", *files_of(SMALL)})
 
     def test_of_solo(self):
         given, wanted = (b"".join(part) for part in zip(*EXCHANGES))

@@ -103,7 +103,7 @@ class Full(Stored):
 
     def assert_journal(self, file):
         # A comparison that fails would show millions of bytes.
-        self.assertTrue((self.folder / "journal").read_bytes() == file, "the journal has other entries")
+        self.assertTrue(journal.file_in(self.folder) == file, "the journal has other entries")
 
     def test_takes_no_change_and_no_undo(self):
         self.write_filled(MOST_ENTRIES)

@@ -1,5 +1,5 @@
-"""What is above change_undo speaks of a log in the words of that crate's Logs.antt: no clause and no definition counts the entries of a log, puts
-some after them, or numbers them from 1."""
+"""What is above change_log, but for change_undo, speaks of a log in the words of Logs.antt there: no clause and no definition counts the entries of a
+log, puts some after them, or numbers them from 1."""
 
 import pathlib
 import re
@@ -40,7 +40,7 @@ def files(crate):
 
 class WordsOfLogs(unittest.TestCase):
     def test_no_crate_above_spells_a_log_out(self):
-        above = crates_above("change_undo")
+        above = [crate for crate in crates_above("change_log") if crate != "change_undo"]
         self.assertIn("host_server", above)
         for file in (file for crate in above for file in files(crate)):
             for what, pattern in SPELT_OUT.items():

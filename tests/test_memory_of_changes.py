@@ -84,7 +84,7 @@ class SweptStores(Swept, Stored):
         _, opened = self.run_refusing(0, b"")
 
         def check_both(hosts, out):
-            found = journal.read((self.folder / "journal").read_bytes())
+            found = journal.read_in(self.folder)
             self.assertIn(found, [list(map(told, host.entries)) for host in hosts])
             check(hosts, out)
 
@@ -121,7 +121,7 @@ class Repeats(SweptStores):
         before, kept = journal.write(self.changed[0]), collections.Counter()
 
         def check(hosts, out):
-            kept[out, (self.folder / "journal").read_bytes() == before] += 1
+            kept[out, journal.file_in(self.folder) == before] += 1
 
         self.sweep(*self.changed, [undo(3)], check)
         self.assertGreater(kept[LACKING, True], 30)

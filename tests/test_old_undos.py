@@ -168,7 +168,7 @@ def converse_at_length(folder, generator, entries):
     visible = looks(model, of=Everywhere)
     for start in range(0, len(visible), REQUESTS):
         converse(folder, model, visible[start:start + REQUESTS])
-    if (pathlib.Path(folder) / "journal").read_bytes() != journal.write(map(told, model.entries)):
+    if journal.file_in(pathlib.Path(folder)) != journal.write(map(told, model.entries)):
         raise AssertionError("the journal has other entries")
 
 

@@ -11,7 +11,7 @@ import unittest
 from lib.client import TOP, digest_of
 from lib.copied_stores import FOLLOW, CopiedStores, Rounds, fake_ssh
 from lib.served import publish
-from lib.stores import opening_of, write_store
+from lib.stores import files_in, opening_of, write_slots, write_store
 import journal
 
 FILES = {"/a.txt": b"first", "/large.bin": bytes(range(256)) * 1_000}
@@ -21,6 +21,11 @@ ROUNDS = 12
 
 
 class Copies(CopiedStores):
+    def assert_same(self):
+        """The copy has the journal and the files of the store."""
+        self.assertEqual(files_in(self.copy), files_in(self.store))
+        self.assertEqual(journal.file_in(self.copy), journal.file_in(self.store))
+
     def test_have_what_was_told_before_they_began_also_if_some_are_killed(self):
         rounds = Rounds(self, 1)
         rounds.go(ROUNDS)
@@ -36,7 +41,7 @@ class Copies(CopiedStores):
         self.assertEqual({file.name: file.stat().st_ino for file in self.copy.iterdir()}, inodes)
         write_store(self.store, [*ENTRIES, ("undo", "one", 2)], *FILES.values(), b"one more")
         self.assertIn(" 3 entries, 1 of them new; 2 new files", self.assert_copied())
-        self.assertEqual(self.files_of(self.copy), self.files_of(self.store))
+        self.assert_same()
         self.assertEqual({file.stat().st_mode & 0o777 for file in self.copy.iterdir()}, {0o600})
 
     def test_take_a_record_that_is_being_written_for_none(self):
@@ -50,10 +55,10 @@ class Copies(CopiedStores):
                 self.copy = self.room / f"copy-{open_gate[0]}-{length}"
                 if (length - whole) % 9 == 1:
                     self.assert_copied()
-                    self.assertEqual((self.copy / "journal").read_bytes(), journal.write(ENTRIES))
+                    self.assertEqual(journal.file_in(self.copy), journal.write(ENTRIES))
         (self.store / "journal").write_bytes(text)
         self.assert_copied()
-        self.assertEqual((self.copy / "journal").read_bytes(), text)
+        self.assertEqual(journal.file_in(self.copy), text)
 
     def test_are_not_made_of_a_store_that_has_lost_its_changes(self):
         """Such as one whose journal was removed, which then begins with an empty history."""
@@ -62,10 +67,35 @@ class Copies(CopiedStores):
         for entries in ([], [opening_of({"/a.txt": b"first"}), *ENTRIES[1:]], ENTRIES[:1]):
             write_store(self.store, entries, *FILES.values())
             self.assert_refused("has changes that the store doesn't have")
-        (self.store / "journal").write_bytes(b"no journal")
-        self.assert_refused("has changes that the store doesn't have")
-        (self.store / "journal").unlink()
-        self.assert_refused("No such file", "journal")
+        for slots in ((), (b"no journal",), (b"", b"\0" + journal.write(ENTRIES)[1:])):
+            write_slots(self.store, *slots)
+            self.assert_refused("has changes that the store doesn't have")
+        for slots in ((journal.EMPTY[:-1],), (journal.EMPTY, journal.EMPTY)):
+            write_slots(self.store, *slots)
+            self.assert_refused("has no journal that opens (BadHeader)")
+
+    def test_go_on_whichever_slot_the_store_has(self):
+        """A store of version 1 is brought over meanwhile; the copy has version 2 from the start."""
+        old, new = journal.write(ENTRIES, journal.OLD_HEADER), journal.write([*ENTRIES, ("undo", "one", 2)])
+        write_store(self.store, [], *FILES.values())
+        write_slots(self.store, old)
+        self.assert_copied()
+        for slots in ((old, journal.write(ENTRIES)), (old, new), (journal.EMPTY[:1], new), (new, b""), (new, old)):
+            write_slots(self.store, *slots)
+            self.assert_copied()
+            self.assertEqual(journal.read_in(self.copy), journal.read_in(self.store))
+            self.assertTrue(journal.file_in(self.copy).startswith(journal.HEADER))
+
+    def test_go_on_with_a_copy_of_version_1(self):
+        """One that the version before made. Its slot stays, and isn't read any more."""
+        old = journal.write(ENTRIES, journal.OLD_HEADER)
+        write_store(self.store, [*ENTRIES, ("undo", "one", 2)], *FILES.values())
+        self.copy.mkdir()
+        for slots in ((old,), (b"", old)):
+            write_slots(self.copy, *slots)
+            self.assertIn(" 3 entries, 1 of them new", self.assert_copied())
+            self.assertEqual(journal.read_in(self.copy), journal.read_in(self.store))
+            self.assertIn(old, journal.slots_in(self.copy))
 
     def test_are_not_written_to_while_a_program_has_them(self):
         write_store(self.store, ENTRIES, *FILES.values())
@@ -93,7 +123,7 @@ class Copies(CopiedStores):
             (self.store / name).write_bytes(before)
         self.assert_copied()
         # What a copy that was killed had begun is gone.
-        self.assertEqual(self.files_of(self.copy), self.files_of(self.store))
+        self.assert_same()
         self.assertFalse((self.copy / ".follow").exists())
 
     def test_refuse_wrong_words(self):
@@ -101,7 +131,6 @@ class Copies(CopiedStores):
             ran = subprocess.run([sys.executable, "-B", FOLLOW, *map(str, words)], capture_output=True, text=True)
             self.assertEqual((ran.returncode, ran.stdout, len(ran.stderr.splitlines())), (2, "", 1), ran.stderr)
         self.assert_refused("no/such/folder", words=["/no/such/folder", self.copy])
-        (self.store / "journal").write_bytes(b"")
         self.assert_refused("the store has no journal yet")
 
     def test_go_on_every_so_often_until_the_copy_is_used(self):
@@ -116,9 +145,9 @@ class Copies(CopiedStores):
             self.assertIsNone(started.poll())
         # A host that is gone for a while is no reason to end.
         self.end(host)
-        (self.store / "journal").rename(self.room / "elsewhere")
-        self.assertIn("journal", started.stderr.readline())
-        (self.room / "elsewhere").rename(self.store / "journal")
+        self.store.rename(self.room / "elsewhere")
+        self.assertIn("operate/follow: ", started.stderr.readline())
+        (self.room / "elsewhere").rename(self.store)
         while " 4 entries" not in started.stdout.readline():
             self.assertIsNone(started.poll())
         # A copy may begin again just then.

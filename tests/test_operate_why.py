@@ -12,7 +12,7 @@ import unittest
 from lib.client import PROGRAM, digest_of
 from lib.copied_stores import CHECK, WHY, CopiedStores, call
 from lib.served import HOST, free_ports, publish
-from lib.stores import opening_of, small_file_system, write_store
+from lib.stores import opening_of, small_file_system, write_slots, write_store
 import journal
 
 # Of Linux: prctl(2), capabilities(7).
@@ -54,7 +54,7 @@ class Checks(CopiedStores):
         self.assertEqual((self.files_of(self.store), sorted(file.name for file in self.store.iterdir())), (before, sorted(before)))
 
     def test_do_not_disturb_a_host(self):
-        (self.store / "journal").unlink()
+        write_slots(self.store)
         self.serve("--store", str(self.store))
         for number in range(5):
             publish(self.client(), {"/a.txt": b"number %d" % number})
@@ -65,12 +65,12 @@ class Checks(CopiedStores):
         self.assert_says_that_it_does_not_open("status 4", f"blobs: DamagedBlob {TABLE[2:]}")
         (self.store / TABLE).unlink()
         self.assert_says_that_it_does_not_open("status 4", f"blobs: MissingBlob {TABLE[2:]}")
-        (self.store / "journal").write_bytes(b"no journal")
-        self.assert_says_that_it_does_not_open("status 3", "journal: BadHeader")
-        (self.store / "journal").write_bytes(journal.write(ENTRIES[1:]))
-        self.assert_says_that_it_does_not_open("status 3", "journal: NotLegal 1")
-        (self.store / "journal").unlink()
-        self.assert_says_that_it_does_not_open("No such file or directory", str(self.store / "journal"))
+        for slots in ((journal.EMPTY[:-1],), (journal.EMPTY, journal.EMPTY)):
+            write_slots(self.store, *slots)
+            self.assert_says_that_it_does_not_open("has no journal that opens (BadHeader)")
+        for slots in ((journal.write(ENTRIES[1:]),), (journal.EMPTY[:1], journal.write(ENTRIES[1:]))):
+            write_slots(self.store, *slots)
+            self.assert_says_that_it_does_not_open("status 3", "journal: NotLegal 1")
         for folder in ("/no/such/folder", str(self.store / TABLE)):
             status, out, errors = call(CHECK, folder, "--program", PROGRAM)
             self.assertEqual((status, out, len(errors.splitlines())), (1, "", 1), errors)
@@ -108,16 +108,20 @@ class Reasons(CopiedStores):
         self.assert_found(f"{self.room}/none: No such file or directory", words=["--store", self.room / "none/below/it"])
         self.assert_found(f"{self.store / TABLE}: it is a file, and no folder", words=["--store", self.store / TABLE / "x"])
         self.assert_found(f"{self.store / TABLE}: it is a file", words=["--store", self.store / TABLE])
-        (self.store / "journal").rename(self.room / "journal")
-        (self.store / "journal").mkdir()
-        self.assert_found(f"{self.store / 'journal'}: it is no file")
+        for name in journal.SLOTS:
+            (self.store / name).rename(self.room / name)
+            (self.store / name).mkdir()
+            self.assert_found(f"{self.store / name}: it is no file")
+            (self.store / name).rmdir()
+            (self.room / name).rename(self.store / name)
 
     def test_a_folder_without_its_journal(self):
         """The program goes on there, with an empty history."""
-        (self.store / "journal").unlink()
-        status, out, _ = call(WHY, "--store", self.store)
-        self.assertEqual(status, 1)
-        self.assertIn(f"{self.store / 'journal'}: there is none, and the folder has files of a store: it would begin with an empty history", out)
+        for slots in ((), (b"",), (b"no journal", b"\0")):
+            write_slots(self.store, *slots)
+            status, out, _ = call(WHY, "--store", self.store)
+            self.assertEqual(status, 1)
+            self.assertIn(f"{self.store}: it has files of a store and no journal: it would begin with an empty history", out)
 
     def test_another_program_that_has_it(self):
         host = self.serve("--store", str(self.store))
@@ -128,17 +132,17 @@ class Reasons(CopiedStores):
         mine, how = os.geteuid() == 0, {}
         if mine:
             how["preexec_fn"] = lambda: [ctypes.CDLL(None).prctl(PR_CAPBSET_DROP, right, 0, 0, 0) for right in (CAP_DAC_OVERRIDE, CAP_DAC_READ_SEARCH)]
-            for place in (self.room, self.store, self.store / "journal"):
+            for place in (self.room, self.store, *(self.store / name for name in journal.SLOTS)):
                 os.chown(place, pwd.getpwnam("nobody").pw_uid, -1)
         else:
             self.addCleanup(os.chmod, self.room, 0o700)
         os.chmod(self.room, 0o755 if mine else 0o700)
-        journal_file = self.store / "journal"
+        journal_file, second = (self.store / name for name in journal.SLOTS)
         for place, mode, words in (
             (self.store, 0o600, f"{self.store}: no permission to enter it: it belongs to"), (self.store, 0o311, f"{self.store}: no permission to read it"),
             (self.store, 0o555, f"{self.store}: no permission to write into it"), (self.store, 0o777, None),
             (journal_file, 0o200, f"{journal_file}: no permission to read it"), (journal_file, 0o444, f"{journal_file}: no permission to write it"),
-            (self.room, 0o600, f"{self.room}: no permission to enter it"),
+            (journal_file, 0o666, None), (second, 0o444, f"{second}: no permission to write it"), (self.room, 0o600, f"{self.room}: no permission to enter it"),
         ):
             os.chmod(place, mode)
             if words:
@@ -173,12 +177,16 @@ class Reasons(CopiedStores):
 
     def test_journals_that_are_damaged(self):
         for content, parts in (
-            (b"no journal", ("BadHeader", "first bytes are 6e 6f 20 6a")), (journal.EMPTY[:-1], ("BadHeader",)),
+            (b"\1no journal", ("BadHeader", "first bytes are 01 6e 6f 20 6a")), (journal.EMPTY[:-1], ("BadHeader",)),
             (journal.write(ENTRIES)[:-40], ("record 3 is malformed", "its bytes end at", "2 records before byte")),
             (journal.EMPTY[:-1] + b"\1\0\0\0\1x\0", ("record 1 is malformed", "its text is that of no entry")),
         ):
-            (self.store / "journal").write_bytes(content)
+            write_slots(self.store, content)
             self.assert_found(self.store / "journal", *parts)
+            write_slots(self.store, journal.write(ENTRIES, journal.OLD_HEADER), content)
+            self.assert_found(self.store / "journal.2", *parts)
+        write_slots(self.store, journal.EMPTY, journal.EMPTY)
+        self.assert_found(self.store, "have one generation (BadHeader)")
 
     def test_files_that_are_lost_or_damaged(self):
         """Each with where it is listed. Those of an open deploy needn't be there."""

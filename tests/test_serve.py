@@ -145,7 +145,7 @@ class NotServing(Served):
             self.assert_says((3, b"", b"filehost: journal: Device\n"), "--listen", address, "--store", "/nowhere")
             self.assert_says((3, b"", b"filehost: journal: Device\n"), "--listen", address, "--store=")
             store = self.folder()
-            (store / "journal").write_bytes(b"no journal at all")
+            (store / "journal").write_bytes(b"\1no journal at all")
             self.assert_says((3, b"", b"filehost: journal: BadHeader\n"), "--listen", address, "--store", str(store))
 
 

@@ -150,7 +150,7 @@ class Shortages(Short):
     def assert_kept(self):
         """After a kill the store has what was told."""
         self.finish()
-        found = journal.read((self.store / "journal").read_bytes())
+        found = journal.read_in(self.store)
         hosts = [host for host in self.hosts.left if found == list(map(told, host.entries))]
         self.assertTrue(any(all(is_stored(self.store, content) for content in host.uploads.values()) for host in hosts))
 
@@ -203,7 +203,7 @@ class Repeats(Short):
         counted, replies = self.refusals.counted, tuple(self.replies)
         self.assert_right_again()
         self.finish()
-        found = journal.read((store / "journal").read_bytes())
+        found = journal.read_in(store)
         self.assertIn(found, [list(map(told, host.entries)) for host in self.hosts.left])
         return counted, (*replies, is_stored(store, b"abc"))
 

@@ -103,7 +103,7 @@ class Starts(Served):
 
         def open_again(slot):
             self.assertEqual(run("solo", "--store", str(slot.folder)), (0, b"", b""))
-            self.assertEqual(files_of(slot.folder), {"journal": journal.write([])})
+            self.assertEqual(files_of(slot.folder), {"journal": b"", "journal.2": journal.EMPTY})
 
         self.nodes, self.reads = 1, [(request("GET", "/s/one/a.txt"), refused("NoSuchFile"))]
         self.assertGreater(self.assert_starts(empty, open_again), 100)

@@ -107,7 +107,7 @@ class Stops(Launched):
     def test_a_change_goes_on_and_is_kept(self):
         """One whose body has come half, and one that is being synced."""
         store, room = self.folder().resolve(), self.folder()
-        held = HeldFile(room, store / "journal")
+        held = HeldFile(room, store / "journal.2")
         held.open()
         self.begin("--store", str(store), environment=held.environment)
         publish(self.client(), {"/a.txt": b"first"})
@@ -124,7 +124,7 @@ class Stops(Launched):
         halved.sendall(asked[1][-3:])
         self.assertEqual(self.received(halved, 15), b"HTTP/1.1 200 OK")
         self.assert_ends(DRAIN, begun)
-        self.assertEqual([entry[0] for entry in journal.read((store / "journal").read_bytes())], ["open", "publish"] * 2 + ["undo"] * 2)
+        self.assertEqual([entry[0] for entry in journal.read_in(store)], ["open", "publish"] * 2 + ["undo"] * 2)
         self.begin("--store", str(store))
         self.assertEqual(ask(self.client(), "GET", FILE)[0], 404)
 

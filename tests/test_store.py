@@ -12,7 +12,7 @@ from lib.client import (
 )
 from lib.generated_histories import Generator
 from lib.plain_model import Model
-from lib.stores import PIECE, Conversation, Stored, as_bytes, entry_of, files_in, files_of, is_stored, looks, refused_undos
+from lib.stores import PIECE, Conversation, Stored, as_bytes, entry_of, files_in, files_of, is_stored, looks, refused_undos, write_slots
 from lib.worked_runs import CHANGED, CHANGED_AGAIN, REFUSED, done, entry, first_deployed, reading, serves, showing, stands, undoing
 import journal
 
@@ -37,13 +37,13 @@ class Closed(Stored):
             ("open", "one", ("auto",), (("/a.txt", HELLO), ("/b.txt", ABC))), ("publish", "one", 1),
             ("rename", "one", "/a.txt", "/c.txt"), ("remove", "one", "/b.txt"), ("undo", "one", 3),
         ])
-        self.assertEqual((self.folder / "journal").read_bytes(), wanted)
+        self.assertEqual(journal.file_in(self.folder), wanted)
         self.assertEqual(files_in(self.folder), files_of(b"hello") | files_of(b"abc"))
 
     def test_an_empty_folder_becomes_an_empty_journal(self):
         for _ in range(2):
             self.assert_answers(b"", b"")
-            self.assertEqual(self.all_files(), {"journal": journal.EMPTY})
+            self.assertEqual(self.all_files(), {"journal": b"", "journal.2": journal.EMPTY})
 
     def test_nothing_is_written_by_what_is_refused_or_read(self):
         self.assert_converses(CHANGED)
@@ -138,11 +138,11 @@ class Written(Stored):
 
     def test_what_a_stop_left_after_the_last_gate_is_cut(self):
         self.write([("open", "one", (), (("/a.txt", HELLO),))], b"hello")
-        whole = (self.folder / "journal").read_bytes()
+        whole = journal.file_in(self.folder)
         for last in (b"\x00", b"\x07"):
             (self.folder / "journal").write_bytes(whole[:-1] + last + b"half of an entry")
             self.assert_converses([(showing(1), stands(1, "open"))])
-            self.assertEqual((self.folder / "journal").read_bytes(), whole)
+            self.assertEqual(journal.file_in(self.folder), whole)
 
     def test_nothing_else_in_the_folder_is_read_or_removed(self):
         self.write([("open", "one", ("auto",), (("/a.txt", HELLO),))])
@@ -160,9 +160,9 @@ class Copied(Stored):
 
     def copy_to(self, folder):
         folder.mkdir()
-        (folder / "journal").write_bytes((self.folder / "journal").read_bytes())
+        write_slots(folder, *journal.slots_in(self.folder))
         for file in self.folder.iterdir():
-            if file.name not in ("journal", "blob.tmp"):
+            if file.name not in (*journal.SLOTS, "blob.tmp"):
                 (folder / file.name).write_bytes(file.read_bytes())
 
     def requests(self):
@@ -181,11 +181,11 @@ class Copied(Stored):
                     self.copy_to(copies[-1])
             program.stdin.close()
             program.stdout.read()
-        last = journal.read((self.folder / "journal").read_bytes())
+        last = journal.read_in(self.folder)
         self.assertEqual(len(last), 2 * len(list(self.requests())))
         for copy in copies:
             self.use(copy)
-            entries = journal.read((copy / "journal").read_bytes())
+            entries = journal.read_in(copy)
             self.assertEqual(entries, last[:len(entries)])
             self.assert_answers(b"", b"")
             self.assert_has([entry_of(entry) for entry in entries])
@@ -237,8 +237,8 @@ class Examples(Stored):
             f"not listed: t-{digest_of(b'')} 0 bytes",
         ], ""))
         self.assertEqual(self.all_files(), before)
-        (self.folder / "journal").write_bytes(b"none")
-        self.assertEqual(self.show(), (1, [], "show-store: `journal` is not a filehost journal\n"))
+        (self.folder / "journal").write_bytes(b"\1none")
+        self.assertEqual(self.show(), (1, [], "show-store: `journal` and `journal.2` are not the slots of a filehost journal\n"))
 
     def test_show_nothing_that_a_terminal_obeys(self):
         """Escapes are shown in place of the controls C0, DEL and C1, of marks that turn the direction of text, and of bytes that are no UTF-8."""

@@ -58,7 +58,7 @@ class FullDisk(Stored):
 
     def assert_goes_on(self):
         """With room again the store is opened, and the entry in hand may be there or not."""
-        file = (self.folder / "journal").read_bytes()
+        file = journal.file_in(self.folder)
         last = ("rename", "one", "/a.txt", "/c.txt")
         self.assertIn(journal.read(file), ([*DEPLOYED], [*DEPLOYED, last]))
         if len(journal.read(file)) == len(DEPLOYED):
@@ -113,7 +113,7 @@ class FullDisk(Stored):
                     file.write(bytes(512))
             acknowledged = self.fill({} if mounted else limited(2_000))
             ballast.unlink()
-            entries = journal.read((self.folder / "journal").read_bytes())
+            entries = journal.read_in(self.folder)
             self.assertIn(len(entries) - acknowledged, (0, 1))
             self.assertEqual(entries, [*DEPLOYED, *[("alias", "one", "next", 1)] * (len(entries) - len(DEPLOYED))])
             self.assert_converses([(aliasing("next", 1), entry(len(entries) + 1)), *READS[:2]])

@@ -13,7 +13,7 @@ from lib.client import HERE, SECONDS, digest_of, refused
 from lib.generated_histories import in_json
 from lib.plain_model import Model, Request
 from lib.served_stores import OfServe
-from lib.stores import Stored, as_bytes, found_in, looks, told
+from lib.stores import Stored, as_bytes, found_in, looks, told, write_slots
 from lib.worked_runs import NO_DEPLOY
 
 SOURCE = HERE / "refuse_device.c"
@@ -168,7 +168,7 @@ class Failures(Stored):
 
     def prepare_nothing(self):
         self.write([])
-        (self.folder / "journal").unlink()
+        write_slots(self.folder)
         return Model()
 
     def prepare_store(self):

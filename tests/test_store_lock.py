@@ -3,6 +3,7 @@ or lengthened the journal of a running one, or moved its folder away. And how a 
 """
 
 import fcntl
+import itertools
 import os
 import shutil
 import stat
@@ -11,7 +12,7 @@ import unittest
 from lib.client import HELLO, PUBLISHED, done, opened, opening, refused, run, sent, upload
 from lib.held_file import HeldFile
 from lib.served import HOST, Served, free_ports
-from lib.stores import Conversation, opening_of, write_store
+from lib.stores import Conversation, kept_in, kept_lines, opening_of, write_slots, write_store
 from lib.worked_runs import LISTING, entry, reading, removing, renaming, undoing
 import journal
 
@@ -27,36 +28,41 @@ def all_files(folder):
     return {file.name: file.read_bytes() for file in folder.iterdir()}
 
 
-# What another program does to the journal of a running one.
+def slot_of(store):
+    """The slot that is read."""
+    return store / journal.SLOTS[journal.place_read(journal.slots_in(store))]
 
 
-def remove(store):
-    (store / "journal").unlink()
+# What another program does to the slot that a running one has read.
 
 
-def replace(store):
+def remove(slot):
+    slot.unlink()
+
+
+def replace(slot):
     """By a copy, as a restore or an editor does."""
-    shutil.copy(store / "journal", store / "copy")
-    (store / "copy").rename(store / "journal")
+    shutil.copy(slot, slot.parent / "copy")
+    (slot.parent / "copy").rename(slot)
 
 
-def replace_by_a_link(store):
+def replace_by_a_link(slot):
     """Which leads to a copy."""
-    shutil.copy(store / "journal", store / "copy")
-    remove(store)
-    (store / "journal").symlink_to("copy")
+    shutil.copy(slot, slot.parent / "copy")
+    remove(slot)
+    slot.symlink_to("copy")
 
 
-def cut_all(store):
-    os.truncate(store / "journal", 0)
+def cut_all(slot):
+    os.truncate(slot, 0)
 
 
-def cut_one(store):
-    os.truncate(store / "journal", (store / "journal").stat().st_size - 1)
+def cut_one(slot):
+    os.truncate(slot, slot.stat().st_size - 1)
 
 
-def lengthen(store):
-    with (store / "journal").open("ab") as file:
+def lengthen(slot):
+    with slot.open("ab") as file:
         file.write(b"more")
 
 
@@ -72,10 +78,12 @@ class Runs(Served):
         self.store = self.room / "store"
         self.words = ("solo", "--store", str(self.store))
 
-    def make(self, entries=(), *contents):
-        """Makes the store anew."""
+    def make(self, entries=(), *contents, place=0):
+        """Makes the store anew, with its journal in this slot."""
         shutil.rmtree(self.store, ignore_errors=True)
         write_store(self.store, entries, *contents)
+        slots = journal.slots_in(self.store)
+        write_slots(self.store, *(slots if place == 0 else slots[::-1]))
 
     def begin(self, command, **how):
         """A running program of this command over the store, and how it is asked."""
@@ -115,14 +123,14 @@ class Locks(Runs):
                 for asked, wanted in PUBLISHED:
                     ask(asked, wanted)
                 self.assert_taken()
-                remove(self.store)
+                write_slots(self.store)
                 self.assert_taken()
-                self.assertFalse((self.store / "journal").exists())
+                self.assertEqual(journal.slots_in(self.store), (b"", b""))
                 self.stop(started)
                 self.assertEqual(run(*self.words), (0, b"", LOST))
 
     def test_a_folder_or_a_journal_under_another_lock_is_taken(self):
-        for name in ("", "journal"):
+        for name in ("", *journal.SLOTS):
             with self.subTest(name):
                 self.make(ENTRIES, b"hello")
                 held = os.open(self.store / name, os.O_RDONLY)
@@ -149,14 +157,14 @@ class Changed(Runs):
         ask(LISTING, LISTED)
 
     def test_fails_the_next_change_and_all_after_it(self):
-        for command in ("solo", "serve"):
+        for command, place in itertools.product(("solo", "serve"), (0, 1)):
             for change in CHANGES:
-                with self.subTest(command, change=change.__name__):
-                    self.make()
+                with self.subTest(command, place=place, change=change.__name__):
+                    self.make(place=place)
                     started, ask = self.begin(command)
                     for asked, wanted in PUBLISHED:
                         ask(asked, wanted)
-                    change(self.store)
+                    change(slot_of(self.store))
                     changed = all_files(self.store)
                     self.assert_taken()
                     self.assert_fails(ask)
@@ -168,10 +176,10 @@ class Changed(Runs):
         started, ask = self.begin("serve")
         for asked, wanted in PUBLISHED:
             ask(asked, wanted)
-        replace(self.store)
+        replace(slot_of(self.store))
         self.assert_fails(ask)
         self.stop(started)
-        self.assertEqual(journal.read((self.store / "journal").read_bytes()), ENTRIES)
+        self.assertEqual(journal.read_in(self.store), ENTRIES)
         started, ask = self.begin("serve")
         ask(renaming("/a.txt", "/b.txt"), entry(3))
         ask(reading("/s/one/b.txt"), sent(b"hello"))
@@ -196,16 +204,16 @@ class Changed(Runs):
 
     def test_is_told_if_it_happens_during_a_change(self):
         """The record is written, and not synced yet, when the file is cut, lengthened, removed or replaced."""
-        for change in CHANGES:
-            with self.subTest(change=change.__name__):
-                self.make(ENTRIES, b"hello")
-                held = HeldFile(self.room, self.store / "journal")
+        for change, place in itertools.product(CHANGES, (0, 1)):
+            with self.subTest(change=change.__name__, place=place):
+                self.make(ENTRIES, b"hello", place=place)
+                held = HeldFile(self.room, slot_of(self.store))
                 held.open()
                 started = self.serve("--store", str(self.store), environment=held.environment)
                 held.close()
                 plug = self.plug(renaming("/a.txt", "/b.txt"))
                 held.wait("held")
-                change(self.store)
+                change(self.store / journal.SLOTS[place])
                 held.open()
                 self.assert_receives(plug, DEVICE)
                 plug.sendall(removing("/a.txt"))
@@ -217,24 +225,25 @@ class Changed(Runs):
 class Made(Runs):
     """How a journal is made."""
 
-    def mode(self):
-        return stat.S_IMODE((self.store / "journal").stat().st_mode)
+    def modes(self):
+        return [stat.S_IMODE((self.store / name).stat().st_mode) for name in journal.SLOTS]
 
     def test_for_its_owner_alone(self):
         for command in ("solo", "serve"):
             with self.subTest(command):
                 self.make()
-                remove(self.store)
+                write_slots(self.store)
                 started, ask = self.begin(command, umask=0)
                 ask(opening({"/a.txt": HELLO}), opened(1, HELLO))
                 self.stop(started)
-                self.assertEqual(self.mode(), 0o600)
+                self.assertEqual(self.modes(), [0o600, 0o600])
 
     def test_and_left_with_the_mode_that_it_has(self):
         self.make(ENTRIES, b"hello")
-        (self.store / "journal").chmod(0o640)
+        for name, mode in zip(journal.SLOTS, (0o640, 0o606)):
+            (self.store / name).chmod(mode)
         self.assertEqual(run(*self.words), (0, b"", b""))
-        self.assertEqual(self.mode(), 0o640)
+        self.assertEqual(self.modes(), [0o640, 0o606])
 
 
 class Lost(Runs):
@@ -251,19 +260,41 @@ class Lost(Runs):
 
     def test_files_without_a_journal_are_told_in_one_line(self):
         for command in ("solo", "serve"):
-            for kind in ("c-", "t-"):
+            for kind in ("c-", "t-", journal.KEPT):
                 with self.subTest(command, kind=kind):
                     self.make([], b"hello")
+                    (self.store / f"{journal.KEPT}1").write_bytes(b"kept")
                     for file in self.store.iterdir():
                         if not file.name.startswith(kind):
                             file.unlink()
                     self.assertEqual(self.ended(command), (0, LOST))
-                    self.assertEqual((self.store / "journal").read_bytes(), journal.EMPTY)
+                    self.assertEqual(journal.file_in(self.store), journal.EMPTY)
                     self.assertEqual(self.ended(command), (0, b""))
+
+    def test_slots_with_at_most_a_byte_are_no_journal(self):
+        """Such as the one that a store doesn't use, where the other one wasn't restored. A slot with more may have had one, and is said to be dropped."""
+        for first, second in itertools.product((None, b"", b"\0", b"\1"), repeat=2):
+            with self.subTest(first=first, second=second):
+                self.make([], b"hello")
+                write_slots(self.store, first, second)
+                self.assertEqual(self.ended("solo"), (0, LOST))
+        write_slots(self.store, b"\0F")
+        self.assertEqual(self.ended("solo"), (0, b""))
+
+    def test_what_is_dropped_of_a_journal_is_told_in_one_line(self):
+        for command in ("solo", "serve"):
+            with self.subTest(command):
+                self.make(ENTRIES, b"hello")
+                damaged = journal.file_in(self.store).replace(b"\1", b"\0", 1)
+                write_slots(self.store, damaged)
+                line, = kept_lines(self.store)
+                self.assertEqual(self.ended(command), (0, line.encode()))
+                self.assertEqual(kept_in(self.store), {f"{journal.KEPT}1": damaged})
+                self.assertEqual(self.ended(command), (0, b""))
 
     def test_nothing_is_told_of_other_folders(self):
         for command in ("solo", "serve"):
-            for names in ((), ("c", "t", "x-1", "blob.tmp"), ("c-1", "journal"), (os.fsdecode(b"c\xff"),)):
+            for names in ((), ("c", "t", "x-1", "blob.tmp"), tuple(journal.SLOTS), (os.fsdecode(b"c\xff"),)):
                 with self.subTest(command, names=names):
                     shutil.rmtree(self.store, ignore_errors=True)
                     self.store.mkdir()
@@ -273,17 +304,18 @@ class Lost(Runs):
 
     def test_a_name_that_is_no_text_hides_no_file(self):
         self.make([], b"hello")
-        remove(self.store)
+        write_slots(self.store)
         (self.store / os.fsdecode(b"\xff")).touch()
         self.assertEqual(self.ended("solo"), (0, LOST))
 
     def test_the_line_comes_before_that_of_a_failure(self):
-        """Something that is not a file has the name of the journal, by a link to a place where nothing can be made."""
-        self.make([], b"hello")
-        remove(self.store)
-        (self.store / "journal").symlink_to("nowhere/journal")
-        for command in ("solo", "serve"):
-            self.assertEqual(run(*self.words_of(command)), (3, b"", LOST + TAKEN[2]))
+        """Something that is not a file has the name of a slot, by a link to a place where nothing can be made."""
+        for name in journal.SLOTS:
+            self.make([], b"hello")
+            write_slots(self.store)
+            (self.store / name).symlink_to("nowhere/journal")
+            for command in ("solo", "serve"):
+                self.assertEqual(run(*self.words_of(command)), (3, b"", LOST + TAKEN[2]))
 
 
 if __name__ == "__main__":

@@ -4,7 +4,7 @@ import unittest
 
 from lib.client import request, sent
 from lib.refused_allocations import NO_MEMORY, Refusing
-from lib.stores import PIECE, Stored, opening_of
+from lib.stores import PIECE, Stored, opening_of, write_slots
 
 CONTENT = bytes(range(256)) * 300
 
@@ -38,7 +38,7 @@ class Openings(Refusing, Stored):
         self.assertGreater(count, 10)
         for place in range(1, count + 1):
             with self.subTest(place=place):
-                (self.folder / "journal").unlink()
+                write_slots(self.folder)
                 self.assertIn(self.run_refusing(place, b"")[0], [whole, (2, b"", NO_MEMORY)])
                 self.assert_answers(b"", b"")
                 self.assert_has([])

@@ -14,6 +14,7 @@ from lib.rows import OTHER
 from lib.served import Served
 from lib.stores import PIECE, Conversation, Stored, files_of, is_stored, limited, opening_of, pieces_of, small_file_system
 from lib.worked_runs import showing, stands
+import journal
 
 DEVICE = refused("Device")
 # The commands, each with the temporary name that its first put takes.
@@ -69,7 +70,7 @@ class Puts(Served):
 
     def shelf(self):
         """The files of the store but its journal."""
-        return [file for file in self.store.iterdir() if file.name != "journal"]
+        return [file for file in self.store.iterdir() if file.name not in journal.SLOTS]
 
     def names(self):
         return {file.name for file in self.shelf()}
@@ -138,7 +139,7 @@ class Failed(Puts):
             for place, name in enumerate(names):
                 with self.subTest(command, place=place):
                     self.begin(command)
-                    (self.store / "journal").touch()
+                    (self.store / "journal").write_bytes(journal.EMPTY)
                     (self.store / name).mkdir()
                     self.converse(command, opens(1, CONTENT), fails(1, CONTENT), fails(1, CONTENT))
                     self.assertEqual(self.names(), set(names[:place + 1]))
@@ -153,7 +154,7 @@ class Failed(Puts):
             for place, piece in enumerate(pieces_of(CONTENT)):
                 with self.subTest(command, place=place):
                     self.begin(command)
-                    (self.store / "journal").touch()
+                    (self.store / "journal").write_bytes(journal.EMPTY)
                     table = self.store / f"t-{digest_of(CONTENT)}"
                     table.mkdir()
                     self.converse(command, opens(1, CONTENT), fails(1, CONTENT))

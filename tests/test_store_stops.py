@@ -14,7 +14,7 @@ from lib.file_traces import Traces
 from lib.generated_histories import in_json
 from lib.plain_model import Model, Request
 from lib.served import Served
-from lib.stores import Stored, as_bytes, files_in, found_in, looks, told
+from lib.stores import Stored, as_bytes, files_in, found_in, kept_in, looks, told, write_slots
 import journal
 
 # The bytes that a crash leaves wherever it may leave any: a closed gate, an open one, and one that is neither.
@@ -57,9 +57,9 @@ def model_of(requests):
     return model
 
 
-def half_open(gate):
+def half_open(gate, header=journal.HEADER):
     """The journal with the changes, after whose last gate, which is this one, a whole record stands."""
-    return journal.write(map(told, model_of(CHANGES).entries))[:-1] + bytes([gate]) + RECORD
+    return journal.write(map(told, model_of(CHANGES).entries), header)[:-1] + bytes([gate]) + RECORD
 
 
 class Stops(Stored, Served):
@@ -78,9 +78,10 @@ class Stops(Stored, Served):
         traces, replies = Traces(self.room, self.folder), self.folder / "replies"
 
         def run_program(environment):
+            notices = self.notices()
             with replies.open("wb") as output:
                 ended = run(*self.words, given=b"".join(map(as_bytes, requests)), stdout=output, env=os.environ | environment)
-            self.assertEqual(ended, (0, None, b""))
+            self.assertEqual(ended, (0, None, notices))
 
         trace = traces.of(run_program)
         self.assertEqual(replies.read_bytes(), b"".join(map(self.model.copy().answer, requests)))
@@ -104,7 +105,7 @@ class Stops(Stored, Served):
         """The calls of a program that answers these requests, and what its shelf has in the end."""
         trace = {"solo": self.trace_solo, "serve": self.trace_serve}[command](requests)
         self.assertEqual(sum(line in REPLIES for line in trace), len(requests))
-        return trace, files_in(self.folder)
+        return trace, files_in(self.folder) | kept_in(self.folder)
 
     def models(self, requests):
         """The model before the first request, and after each."""
@@ -125,7 +126,7 @@ class Stops(Stored, Served):
                     image = replies, tuple(sorted(files.items()))
                     if image not in self.opened:
                         in_hand = requests[replies:replies + 1] or [None]
-                        yield image, files, models[replies], in_hand + ([self.left] if store.journal.syncs < 2 else [])
+                        yield image, files, models[replies], in_hand + ([self.left] if store.slots["journal"].syncs < 2 else [])
 
     def assert_opens(self, image, files, model, in_hand):
         """A store with these files is opened with what was acknowledged, and at most what was in hand."""
@@ -186,13 +187,15 @@ class Runs(Stops):
                 self.begin_anew()
                 trace, contents = self.assert_stops(command, CHANGES)
                 self.assertGreater(len(self.opened), 50)
-                # The opening syncs the folder and then the journal, of which there is nothing yet.
-                self.assertEqual(trace[:2], ["fsync folder", "fdatasync journal"])
-                self.assert_each_counts(CHANGES, trace, contents, 2)
+                # The opening syncs the folder and then both slots, of which there is nothing yet. A stop loses nothing of the file that it makes.
+                self.assertEqual([line.split(" ")[:2] for line in trace[:3]], [["fsync", "folder"], ["fdatasync", "journal"], ["fdatasync", "journal.2"]])
+                made = [f"pwrite journal.2 0 {journal.SHUT.hex()}", f"pwrite journal.2 1 {journal.EMPTY[1:].hex()}", f"pwrite journal.2 0 {journal.OPEN.hex()}"]
+                self.assertEqual((trace[3:9:2], trace[4:9:2]), (made, ["fdatasync journal.2"] * 3))
+                self.assert_each_counts(CHANGES, trace, contents, 9)
 
     def begin_anew(self):
         self.begin(Model())
-        (self.folder / "journal").unlink()
+        write_slots(self.folder)
         self.before = {}
 
     def test_in_a_store_with_an_unfinished_entry(self):
@@ -202,17 +205,21 @@ class Runs(Stops):
                 self.begin(model_of(CHANGES), half_open(7), REMOVAL)
                 (self.folder / "blob.tmp").write_bytes(b"the front of a piece")
                 trace, contents = self.assert_stops(command, MORE)
-                self.assertEqual([line.split(" ")[0] for line in trace[:6]], ["fsync", "fdatasync", "pwrite", "fdatasync", "ftruncate", "fdatasync"])
-                self.assert_each_counts(MORE, trace, contents, 6)
+                # The whole entry is kept first.
+                opening = ["fsync", "write", "fsync", "rename", "fsync", "fdatasync", "fdatasync", "pwrite", "fdatasync", "ftruncate", "fdatasync"]
+                self.assertEqual([line.split(" ")[0] for line in trace[:len(opening)]], opening)
+                self.assert_each_counts(MORE, trace, contents, len(opening))
 
 
 class Openings(Stops):
     """Journals of each kind that docs/STORAGE.md names, opened without a request."""
 
     def test_of_each_kind(self):
-        shut = half_open(0)[:-len(RECORD)]
-        no_entry = [b"", *(bytes([byte]) for byte in (*BYTES, 255)), b"\x00HJRNL\x01\x01junk", bytes(20), b"\x07" + journal.EMPTY[1:], journal.EMPTY]
-        for file in (*no_entry, shut, shut + b"\xff\x01", *map(half_open, (0, 2, 7, 255))):
+        shut, old = (half_open(0, header)[:-len(RECORD)] for header in (journal.HEADER, journal.OLD_HEADER))
+        no_file = [b"", *(bytes([byte]) for byte in (*BYTES, 255)), b"\x00HJRNL\x01\x01junk", bytes(20), b"\x07" + journal.EMPTY[1:]]
+        no_entry = [*no_file, journal.EMPTY, journal.write([], journal.OLD_HEADER)]
+        older = [old, old + b"\xff\x01", *(half_open(gate, journal.OLD_HEADER) for gate in (0, 7))]
+        for file in (*no_entry, shut, shut + b"\xff\x01", *map(half_open, (0, 2, 7, 255)), *older):
             with self.subTest(file[:12].hex(), size=len(file)):
                 self.begin(Model() if file in no_entry else model_of(CHANGES), file, REMOVAL)
                 self.assert_stops("solo", [])

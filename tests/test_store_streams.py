@@ -44,7 +44,7 @@ class Streams(Stored):
         """The store has what the first `requests` requests did, and nothing else; it is opened again, and then has the same."""
         file = journal.write(ENTRIES[:COUNTS[requests]])
         for _ in range(2):
-            self.assertEqual((self.folder / "journal").read_bytes(), file)
+            self.assertEqual(journal.file_in(self.folder), file)
             self.assertEqual(files_in(self.folder), files_of(b"hello") if requests > 1 else {})
             self.assert_answers(b"", b"")
 
@@ -97,7 +97,7 @@ class FirstRun(Stored):
     counts = [0, 1, 2, 2, 3, 3]
 
     def assert_did(self, requests):
-        self.assertEqual((self.folder / "journal").read_bytes(), journal.write(self.entries[:self.counts[requests]]))
+        self.assertEqual(journal.file_in(self.folder), journal.write(self.entries[:self.counts[requests]]))
         self.assertEqual(files_in(self.folder), files_of(b"hello") if requests > 1 else {})
 
     def test_that_is_cut_leaves_what_whole_requests_did(self):

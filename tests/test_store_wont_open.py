@@ -9,7 +9,7 @@ import subprocess
 import unittest
 
 from lib.client import ABC, HELLO, PROGRAM, Client, opened, opening, request, run, sent, upload, uploaded
-from lib.stores import Stored, files_of, opening_of
+from lib.stores import Stored, files_of, opening_of, write_slots
 from lib.worked_runs import first_deployed, reading, serves, showing, stands
 import journal
 
@@ -40,7 +40,7 @@ class Journals(Stored):
 
     def test_three_entries_that_no_host_made(self):
         file = journal.write([CANCEL] * 3)
-        self.assertEqual(len(file), 63)
+        self.assertEqual(len(file), 71)
         self.write_journal(file)
         self.assert_fails(3, "journal: NotLegal 1")
 
@@ -57,21 +57,22 @@ class Journals(Stored):
                 self.assert_fails(3, f"journal: NotLegal {number}")
 
     def test_a_file_that_is_not_a_journal_is_left_as_it_is(self):
-        for file in (b"a file of another kind", journal.HEADER, b"\x01FHJRNL\x02\x00", b"\x01FHJRNL", b"\x02FHJRNL\x01\x01", b"\x01\x00"):
+        for file in (b"\x01 file of another kind", *journal.HEADERS, b"\x01FHJRNL\x02\x00", b"\x01FHJRNL", b"\x01FHJRNL\x03\x01", b"\x01\x00"):
             with self.subTest(file=file):
                 self.write_journal(file)
                 self.assert_fails(3, "journal: BadHeader")
 
     def test_a_malformed_record_is_told_with_its_number(self):
-        file = journal.write([CANCEL] * 3)
-        for cut, number in [(62, 3), (45, 3), (44, 2), (27, 2), (26, 1), (9, 1)]:
-            with self.subTest(cut=cut):
-                self.write_journal(file[:cut])
-                self.assert_fails(3, f"journal: BadRecord {number}")
-        for place, number in [(31, 2), (13, 1), (50, 3)]:
-            with self.subTest(place=place):
-                self.write_journal(file[:place] + b"\xff" + file[place + 1:])
-                self.assert_fails(3, f"journal: BadRecord {number}")
+        for header in journal.HEADERS:
+            file, gate = journal.write([CANCEL] * 3, header), len(header)
+            for cut, number in [(54, 3), (37, 3), (36, 2), (19, 2), (18, 1), (1, 1)]:
+                with self.subTest(header=header, cut=cut):
+                    self.write_journal(file[:gate + cut])
+                    self.assert_fails(3, f"journal: BadRecord {number}")
+            for place, number in [(gate + 23, 2), (gate + 5, 1), (gate + 42, 3)]:
+                with self.subTest(header=header, place=place):
+                    self.write_journal(file[:place] + b"\xff" + file[place + 1:])
+                    self.assert_fails(3, f"journal: BadRecord {number}")
 
 
 class Folders(Stored):
@@ -94,9 +95,13 @@ class Folders(Stored):
         self.assert_fails(3, "journal: Device")
         self.assertEqual(self.folder.read_bytes(), b"bytes")
 
-    def test_a_folder_in_place_of_the_journal(self):
-        (self.folder / "journal").mkdir()
-        self.assert_fails(3, "journal: Device")
+    def test_a_folder_in_place_of_a_slot(self):
+        for name in journal.SLOTS:
+            write_slots(self.folder, b"", b"")
+            (self.folder / name).unlink()
+            (self.folder / name).mkdir()
+            self.assert_fails(3, "journal: Device")
+            (self.folder / name).rmdir()
 
     def test_a_journal_that_another_process_has_open(self):
         client = Client(self)
@@ -109,9 +114,10 @@ class Folders(Stored):
 
     def test_a_journal_under_a_lock(self):
         self.write(DEPLOYED, b"hello")
-        with (self.folder / "journal").open("rb") as file:
-            fcntl.flock(file, fcntl.LOCK_EX)
-            self.assert_fails(3, "journal: Device")
+        for name in journal.SLOTS:
+            with (self.folder / name).open("rb") as file:
+                fcntl.flock(file, fcntl.LOCK_EX)
+                self.assert_fails(3, "journal: Device")
         self.assert_converses(serves("/a.txt", among=("/a.txt",)))
 
     def call_as_anyone(self):
@@ -133,9 +139,10 @@ class Folders(Stored):
 
     def test_a_journal_that_may_not_be_written(self):
         how = self.call_as_anyone()
-        self.write(DEPLOYED, b"hello")
-        (self.folder / "journal").chmod(0o444)
-        self.assert_fails(3, "journal: Device", **how)
+        for name in journal.SLOTS:
+            self.write(DEPLOYED, b"hello")
+            (self.folder / name).chmod(0o444)
+            self.assert_fails(3, "journal: Device", **how)
 
     def test_a_read_only_mount(self):
         self.write(DEPLOYED, b"hello")
@@ -150,14 +157,16 @@ def read_only(folder):
     mounted = subprocess.run(["mount", "--bind", "-o", "ro", folder, folder], capture_output=True).returncode == 0
     try:
         if not mounted:
-            (folder / "journal").chmod(0o444)
+            for name in journal.SLOTS:
+                (folder / name).chmod(0o444)
         yield
     finally:
         if mounted:
             # lazily, since after a failed test a program may still have it open
             subprocess.run(["umount", "--lazy", folder], check=True)
         else:
-            (folder / "journal").chmod(0o644)
+            for name in journal.SLOTS:
+                (folder / name).chmod(0o644)
 
 
 class Blobs(Stored):
@@ -265,7 +274,7 @@ class Order(Stored):
 
     def test_the_journal_goes_before_the_blobs(self):
         self.write([*DEPLOYED, CANCEL])
-        file = (self.folder / "journal").read_bytes()
+        file = journal.file_in(self.folder)
         (self.folder / "journal").write_bytes(file[:-1])
         self.assert_fails(3, "journal: BadRecord 3")
         (self.folder / "journal").write_bytes(file[:1] + b"G" + file[2:])

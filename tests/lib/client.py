@@ -233,20 +233,25 @@ class Program(unittest.TestCase):
     def setUp(self):
         self.assertTrue(PROGRAM.is_file(), "there is no program to test: ./filehost builds it")
 
+    def notices(self):
+        """What the program will say on standard error while it begins."""
+        return b""
+
     def assert_answers(self, given, wanted, message=None):
         """The program answers these requests with exactly these replies, and ends well."""
-        self.assertEqual(run(*self.words, given=given), (0, wanted, b""), message)
+        notices = self.notices()
+        self.assertEqual(run(*self.words, given=given), (0, wanted, notices), message)
 
     def assert_converses(self, exchanges, unread=b""):
         """The program answers the request of each exchange with its reply, and nothing after them, and ends well."""
-        given = b"".join(asked for asked, _ in exchanges)
+        given, notices = b"".join(asked for asked, _ in exchanges), self.notices()
         status, out, errors = run(*self.words, given=given + unread)
         place = 0
         for number, (asked, wanted) in enumerate(exchanges, 1):
             got = out[place:place + len(wanted)]
             self.assertEqual(got, wanted, f"exchange {number}: {asked[:200]}")
             place += len(wanted)
-        self.assertEqual((status, out[place:], errors), (0, b"", b""), f"after exchange {len(exchanges)}")
+        self.assertEqual((status, out[place:], errors), (0, b"", notices), f"after exchange {len(exchanges)}")
 
     def assert_converses_in_turns(self, exchanges):
         """The program answers each request before the next one is sent, and ends with its input or if a reply says so."""

@@ -62,7 +62,7 @@ class CopiedStores(Served):
         return out
 
     def entries_of(self, folder):
-        return [entry_of(told) for told in journal.read((folder / "journal").read_bytes())]
+        return [entry_of(told) for told in journal.read_in(folder)]
 
     def serve_store(self, folder):
         """Starts a host with two nodes over a folder; returns it and the seconds until it answers."""
@@ -156,7 +156,7 @@ class Rounds:
         else:
             self.test.assertTrue(is_killed, errors)
             self.kills += 1
-        if self.copied or (self.test.copy / "journal").exists():
+        if self.copied or (self.test.copy / journal.SLOTS[1]).exists():
             self.test.assert_opens(self.test.copy)
             self.look()
 
@@ -170,7 +170,7 @@ class Rounds:
 
     def switch(self):
         """Starts a host with the copy, in place of the one that was killed: its files are those of its last entries."""
-        if not (self.test.copy / "journal").exists():
+        if not (self.test.copy / journal.SLOTS[1]).exists():
             return
         started, seconds = self.test.serve_store(self.test.copy)
         self.switches.append(seconds)

@@ -2,7 +2,9 @@
 file", apart from the crates' code.
 """
 
-JOURNAL, FOLDER = "journal", "folder"
+from journal import SLOTS
+
+FOLDER = "folder"
 # What stands in a file of the shelf whose bytes weren't synced before it got its name.
 LOST = b"bytes that no program wrote"
 
@@ -37,11 +39,11 @@ class Disk:
 
 
 class Store:
-    """A store as the calls leave it: the journal, and the files of the shelf, each with the bytes that its name stands for."""
+    """A store as the calls leave it: the slots of the journal, and the files of the shelf, each with the bytes that its name stands for."""
 
     def __init__(self, before, contents):
-        self.journal = Disk(before.get(JOURNAL, b""))
-        self.lasting = {name: data for name, data in before.items() if name != JOURNAL}
+        self.slots = {name: Disk(before.get(name, b"")) for name in SLOTS}
+        self.lasting = {name: data for name, data in before.items() if name not in SLOTS}
         # The files that were renamed since the folder was synced, and those under temporary names whose bytes weren't synced.
         self.renamed, self.unsynced = {}, set()
         self.contents = contents
@@ -49,8 +51,8 @@ class Store:
     def apply(self, line):
         """Does what a traced call did."""
         call, name, *rest = line.split(" ")
-        if name == JOURNAL:
-            self.apply_to_journal(call, *rest)
+        if name in SLOTS:
+            self.apply_to_slot(self.slots[name], call, *rest)
         elif call == "write":
             self.unsynced.add(name)
         elif call == "rename":
@@ -61,14 +63,14 @@ class Store:
         else:
             self.unsynced.discard(name)
 
-    def apply_to_journal(self, call, *rest):
+    def apply_to_slot(self, slot, call, *rest):
         if call == "pwrite":
             at, data = rest
-            self.journal.write(int(at), bytes.fromhex(data))
+            slot.write(int(at), bytes.fromhex(data))
         elif call == "ftruncate":
-            self.journal.cut(int(rest[0]))
+            slot.cut(int(rest[0]))
         else:
-            self.journal.sync()
+            slot.sync()
 
     def rename(self, temporary, name):
         self.renamed[name] = LOST if temporary in self.unsynced else self.contents[name]
@@ -76,7 +78,8 @@ class Store:
 
     def files(self, byte, are_renamed):
         """The files that a crash may leave, with this byte wherever it may leave any in the journal; of the renamed ones all, or none."""
-        return {JOURNAL: self.journal.image(byte), **self.lasting, **(self.renamed if are_renamed else {})}
+        slots = {name: slot.image(byte) for name, slot in self.slots.items()}
+        return {**slots, **self.lasting, **(self.renamed if are_renamed else {})}
 
 
 def stops_of(trace, before, contents):

@@ -108,7 +108,7 @@ class AtDesk(unittest.TestCase):
         (self.folder / "journal").write_bytes(journal.write(entries))
 
     def read_journal(self):
-        return (self.folder / "journal").read_bytes()
+        return journal.file_in(self.folder)
 
     def start(self, stage, folder=None, **how):
         words = [CRATE.program, "desk", stage, folder or self.folder]

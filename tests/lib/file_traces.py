@@ -16,9 +16,10 @@ class Traces:
         self.told_in = room / "calls"
         subprocess.run(["gcc", "-O1", "-shared", "-fPIC", "-o", self.library, SOURCE, "-ldl"], check=True, timeout=SECONDS)
 
-    def of(self, run):
-        """The calls that were told while `run` ran a program with this environment. Each file has its name in the folder alone."""
+    def of(self, run, stop=0):
+        """The calls that were told while `run` ran a program with this environment. Each file has its name in the folder alone. With a number the program is
+        killed in place of the call of that number."""
         self.told_in.unlink(missing_ok=True)
-        run({"LD_PRELOAD": str(self.library), "TRACE_FILE": str(self.told_in)})
+        run({"LD_PRELOAD": str(self.library), "TRACE_FILE": str(self.told_in), "STOP_AT": str(stop)})
         told = self.told_in.read_text()
         return told.replace(f" {self.folder}/", " ").replace(f" {self.folder}\n", " folder\n").splitlines()

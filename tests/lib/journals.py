@@ -15,15 +15,15 @@ CRATE = BuiltCrate("host_driver")
 FILES_AT_ONCE = 4
 
 
-def told(file):
-    """What the program says of a file that it opens, and what the file then is."""
+def told(first, second=b""):
+    """What the program says of two slots that it opens, and what they then are."""
     try:
-        entries, after = journal.opened(file)
+        entries, after = journal.opened(first, second)
         return f"{len(entries)} entries", after
     except journal.BadHeader:
-        return "BadHeader", file
+        return "BadHeader", (first, second)
     except journal.BadRecord as fault:
-        return f"BadRecord {fault.args[0]}", file
+        return f"BadRecord {fault.args[0]}", (first, second)
 
 
 class Journals(unittest.TestCase):
@@ -47,19 +47,19 @@ class Journals(unittest.TestCase):
         """What the program says of the file that it opens, after the time that it took."""
         return self.run_program("open", path or self.file, "1").partition(" ")[2]
 
-    def opened(self, file, number):
-        """What the program says of a file with these bytes, and what it then is. Its folder has a number for its name, and no other program in it."""
+    def opened(self, slots, number):
+        """What the program says of slots with these bytes, and what they then are. Their folder has a number for its name, and no other program in it."""
         folder = self.folder / str(number)
         folder.mkdir(exist_ok=True)
-        path = folder / "journal"
-        path.write_bytes(file)
-        return self.open(path), path.read_bytes()
+        for name, slot in zip(journal.SLOTS, slots):
+            (folder / name).write_bytes(slot)
+        return self.open(folder / "journal"), journal.slots_in(folder)
 
     def assert_opened(self, rows):
-        """Each row is a file, what the program must say of it, and what the file must be then."""
-        files = [file for file, _, _ in rows]
+        """Each row is the files of two slots, what the program must say of them, and what they must be then."""
+        slots = [before for before, _, _ in rows]
         with concurrent.futures.ThreadPoolExecutor(FILES_AT_ONCE) as pool:
-            for (file, answer, after), (said, found) in zip(rows, pool.map(self.opened, files, itertools.count())):
-                shown = file[:1_000].hex()
+            for (before, answer, after), (said, found) in zip(rows, pool.map(self.opened, slots, itertools.count())):
+                shown = " / ".join(slot[:1_000].hex() for slot in before)
                 self.assertEqual(said, answer, shown)
-                self.assertTrue(found == after, f"{shown} becomes {found[:1_000].hex()}")
+                self.assertTrue(found == after, f"{shown} becomes {[slot[:1_000].hex() for slot in found]}")

@@ -9,7 +9,7 @@ import time
 from lib.client import PATIENCE, PROGRAM, REQUESTS, content_length
 from lib.generated_histories import Generator
 from lib.plain_model import Model
-from lib.stores import as_bytes, found_in, looks, told
+from lib.stores import as_bytes, found_in, looks, notices_of, told
 import journal
 
 
@@ -17,6 +17,8 @@ class Killed:
     """A program over a store, which is asked one request after the other, and then killed."""
 
     def __init__(self, folder, program=PROGRAM, patience=PATIENCE):
+        # What it says before it serves, as where a kill has left a whole record behind the closed gate.
+        self.notices = notices_of(folder)
         pipes = dict.fromkeys(("stdin", "stdout", "stderr"), subprocess.PIPE)
         self.program = subprocess.Popen([program, "solo", "--store", folder], bufsize=0, **pipes)
         self.watch = threading.Timer(patience, self.program.kill)
@@ -167,4 +169,4 @@ class Round:
         with self.open() as program:
             for asked in self.some_looks(REQUESTS - 1):
                 self.expect(program, asked)
-        self.test.assertEqual((self.folder / "journal").read_bytes(), journal.write(map(told, self.model.entries)))
+        self.test.assertEqual(journal.file_in(self.folder), journal.write(map(told, self.model.entries)))

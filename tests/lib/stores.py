@@ -1,6 +1,8 @@
 """Stores in folders, as docs/STORAGE.md says what is in them: what the program is to find there, and runs of it over one."""
 
 import contextlib
+import itertools
+import os
 import pathlib
 import resource
 import shutil
@@ -17,6 +19,9 @@ import journal
 PIECE = 65_536
 # A folder in memory, if there is one: there a sync takes no time.
 IN_MEMORY = "/dev/shm" if pathlib.Path("/dev/shm").is_dir() else None
+
+# What is said of a folder with files of a store and no journal.
+LOST = "filehost: the folder has files of a store and no journal: it begins with an empty history\n"
 
 # The kinds that the list of changes and the reader of journals name in two ways.
 KINDS = {"unalias": "no-alias", "delete": "no-deploy"}
@@ -57,8 +62,13 @@ def files_of(content):
 
 
 def files_in(folder):
-    """What a store has but its journal and what has no name of its own yet."""
-    return {file.name: file.read_bytes() for file in folder.iterdir() if file.name != "journal" and file.suffix != ".tmp"}
+    """What a store has but its journal, files of it that were kept, and what has no name of its own yet."""
+    return {file.name: file.read_bytes() for file in folder.iterdir() if not file.name.startswith("journal") and file.suffix != ".tmp"}
+
+
+def kept_in(folder):
+    """The files of its journal that a store has kept."""
+    return {file.name: file.read_bytes() for file in sorted(folder.iterdir()) if file.name.startswith(journal.KEPT) and file.is_file()}
 
 
 def is_stored(folder, content):
@@ -67,10 +77,41 @@ def is_stored(folder, content):
     return all(file.is_file() and file.read_bytes() == data for file, data in files)
 
 
+def write_slots(folder, first=None, second=None):
+    """Writes the files of both slots. One that isn't given isn't there."""
+    for name, slot in zip(journal.SLOTS, (first, second)):
+        (folder / name).unlink(missing_ok=True)
+        if slot is not None:
+            (folder / name).write_bytes(slot)
+
+
+def kept_lines(folder):
+    """What a program that opens the store says of files that it keeps, since it drops a part of them."""
+    lines = []
+    try:
+        losses = journal.dropped(*journal.slots_in(folder))
+    except (OSError, journal.BadHeader, journal.BadRecord):
+        return []
+    free = (name for name in (f"{journal.KEPT}{number}" for number in itertools.count(1)) if not os.path.lexists(folder / name))
+    for slot, loss in zip(journal.SLOTS, losses):
+        if loss:
+            start, size, records = loss
+            lines.append(f"filehost: {slot}: the opening drops {size} bytes from {start} on, {records} whole records among them, which a stop may have left: "
+                         f"{next(free)} has all of the file\n")
+    return lines
+
+
+def notices_of(folder):
+    """What a program that opens the store says before it reads the journal: that there is none, or which files it keeps."""
+    has_files = any(file.name.startswith(("c-", "t-", journal.KEPT)) for file in folder.iterdir())
+    is_lost = has_files and not any((folder / name).exists() and (folder / name).stat().st_size > 1 for name in journal.SLOTS)
+    return "".join([LOST] * is_lost + kept_lines(folder)).encode()
+
+
 def write_store(folder, entries, *contents):
     """Writes a store with these entries and these uploaded files."""
     folder.mkdir(exist_ok=True)
-    (folder / "journal").write_bytes(journal.write(entries))
+    write_slots(folder, journal.write(entries), b"")
     for content in contents:
         for name, data in files_of(content).items():
             (folder / name).write_bytes(data)
@@ -79,8 +120,7 @@ def write_store(folder, entries, *contents):
 def found_in(test, folder, model, asked=None):
     """The model of what a store has after a stop during this request: what was acknowledged, all and unchanged, and after it
     none, the first or all of the entries that the request would make; and what is uploaded whole, also by that request."""
-    file = folder / "journal"
-    entries = [entry_of(entry) for entry in journal.read(file.read_bytes() if file.exists() else b"")]
+    entries = [entry_of(entry) for entry in journal.read_in(folder)]
     done, count = model.copy(), len(model.entries)
     if asked:
         done.answer(asked)
@@ -136,6 +176,9 @@ class Stored(Program):
         self.folder = folder
         self.words = ("solo", "--store", str(folder))
 
+    def notices(self):
+        return notices_of(self.folder) if self.folder.is_dir() else b""
+
     def talk(self, **how):
         """A conversation with a program over the store."""
         return Conversation(self, **how)
@@ -154,7 +197,7 @@ class Stored(Program):
 
     def assert_has(self, entries):
         """The journal has these entries, and no other byte."""
-        file = (self.folder / "journal").read_bytes()
+        file = journal.file_in(self.folder)
         self.assertEqual([entry_of(entry) for entry in journal.read(file)], entries)
         self.assertEqual(file, journal.write(map(told, entries)))
 

@@ -1,8 +1,10 @@
 /* Is before the C library's calls that change, sync or rename a file in a program or send to a socket, and tells each of them, in order, in a line of
- * the file TRACE_FILE: its name, the path of the file or the word `socket`, and what else it was given. A line is told before its call is made. */
+ * the file TRACE_FILE: its name, the path of the file or the word `socket`, and what else it was given. A line is told before its call is made. If
+ * STOP_AT is set, the program is killed where it has told so many lines: the last call isn't made. */
 #define _GNU_SOURCE
 #include <dlfcn.h>
 #include <fcntl.h>
+#include <signal.h>
 #include <stdarg.h>
 #include <stdio.h>
 #include <stdlib.h>
@@ -39,9 +41,12 @@ static FILE *begin(const char *call, int fd) {
 }
 
 static void end(FILE *file) {
+    static long told;
+    const char *stop = getenv("STOP_AT");
     if (!file) return;
     fputc('\n', file);
     fflush(file);
+    if (++told == (stop ? atol(stop) : 0)) kill(getpid(), SIGKILL);
     funlockfile(file);
 }
 

@@ -47,9 +47,9 @@ no-and : (b : Bool) → (b && false) ≡ false
 no-and true = refl
 no-and false = refl
 
-module _ {S : Type 0} (calls : S → List Call) (first : ShelfName → Option (List ℕ)) (gave : List Call → Bool) where
+module _ {S : Type 0} (calls : S → List Call) (shown : S → Call → Type 0) (first : ShelfName → Option (List ℕ)) (gave : List Call → Bool) where
   abbrev Did : S → Call → S → Type 0
-  Did old call new = calls new ≡ call ∷ calls old
+  Did old call new = (calls new ≡ call ∷ calls old) × shown old call
 
   abbrev honest : S → Bool
   honest shelf = are_true first gave (calls shelf)
@@ -64,10 +64,10 @@ module _ {S : Type 0} (calls : S → List Call) (first : ShelfName → Option (L
   was_true (GetFails name fault) before is = is
 
   after : (old new : S) (call : Call) (name : ShelfName) → Did old call new → has new name ≡ there_after first gave (call ∷ calls old) name
-  after old new call name did = ap (λ l. there_after first gave l name) did
+  after old new call name did = ap (λ l. there_after first gave l name) did.0
 
   told : (old new : S) (call : Call) → Did old call new → honest new ≡ true → are_true first gave (call ∷ calls old) ≡ true
-  told old new call did so = ap (are_true first gave) (sym did) ∙ so
+  told old new call did so = ap (are_true first gave) (sym did.0) ∙ so
 
   left_or_put : (b : Bool) (old : Option (List ℕ)) (bytes : List ℕ) → (cond b (Some bytes) old ≡ old) ⊎ (cond b (Some bytes) old ≡ Some bytes)
   left_or_put true old bytes = inr refl

@@ -11,3 +11,4 @@ pub mod Kept
 pub mod KeptOpen
 pub mod Honest
 mod Foldered
+mod FilePuts

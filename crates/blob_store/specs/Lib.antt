@@ -8,4 +8,7 @@ pub mod Shelves
 pub mod Openings
 pub mod Keeping
 pub mod Folders
+pub mod FileCalls
 pub mod FileFaults
+pub mod Receipts
+pub mod TemporaryNames

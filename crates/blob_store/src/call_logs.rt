@@ -5,15 +5,9 @@ ghost use Rattle.blob_store.specs.Folders.{calls_of, failures_in};
 ghost use Rattle.blob_store.specs.declared.shelves.ShelfFault.TheVariants.{Device};
 
 use crate::shelves::{ShelfFault, ShelfName};
-use boxcar::tag::{Names, Tag};
+use crate::tags::tag_of;
+use boxcar::tag::Tag;
 use std::snapshot::Snapshot;
-
-/// Reads all bytes of a slice off it.
-struct AllBytes;
-
-impl<'a> Names<&'a [u8]> for AllBytes {
-    ghost numbers = { λ bytes. bytes.now };
-}
 
 /// The calls of a shelf, each with what it was given and what it answered. Snapshots and tags have no bytes, so nothing is kept at run
 /// time.
@@ -40,7 +34,7 @@ pub(crate) fn logged_put(
     *log = CallLog::AfterPut(
         Snapshot::of(log),
         Snapshot::of(&name),
-        Tag::of::<&[u8], AllBytes>(&bytes),
+        tag_of(bytes),
         Snapshot::of(&outcome),
     );
     outcome

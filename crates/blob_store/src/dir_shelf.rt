@@ -3,7 +3,7 @@ ghost use Rattle.std.specs.Prelude.{◌≡◌, [], IfOk};
 ghost use Rattle.blob_store.specs.Folders.{calls_of};
 
 use crate::call_logs::{CallLog, logged_get, logged_put};
-use crate::folder_files::{FileFault, read_in, write_in};
+use crate::receipts::{Found, get_in, put_in};
 use crate::shelves::{Shelf, ShelfFault, ShelfName};
 use std::alloc::{AllocError, Global};
 use std::path::PathBuf;
@@ -21,11 +21,6 @@ pub struct DirShelf<'a, R> {
     folder: PathBuf,
     temporary: PathBuf,
     log: CallLog,
-}
-
-/// The fault of a file as this shelf tells it.
-fn on_shelf(fault: FileFault) -> ShelfFault {
-    fault.told().on_shelf()
 }
 
 impl<'a, R: Files> DirShelf<'a, R> {
@@ -47,22 +42,31 @@ impl<'a, R: Files> DirShelf<'a, R> {
 
 impl<R: Files> Shelf for DirShelf<'_, R> {
     ghost use Rattle.std.specs.Prelude.{◌≡◌, ◌∷◌};
+    ghost use Rattle.std.specs.Path.{path_buf_bytes};
     ghost use Rattle.blob_store.specs.Folders.{calls_of, failures_in};
+    ghost use Rattle.blob_store.specs.Receipts.{IsShown};
+    ghost use Rattle.blob_store.specs.declared.receipts.Written.{Written};
+    ghost use Rattle.blob_store.specs.declared.receipts.Absent.{Absent};
 
     ghost failures = { λ shelf. failures_in (calls_of shelf.log) };
 
-    ghost did = { λ old call new. calls_of new.log ≡ call ∷ calls_of old.log };
+    ghost did = { λ old call new. (calls_of new.log ≡ call ∷ calls_of old.log)
+        × IsShown (λ (written : Written) name bytes. (written.folder.numbers ≡ path_buf_bytes old.folder) × (written.name.value ≡ name) × (written.bytes.numbers ≡ bytes))
+        (λ (absent : Absent) name. (absent.folder.numbers ≡ path_buf_bytes old.folder) × (absent.name.value ≡ name)) call };
 
     fn put(&mut self, name: ShelfName, bytes: &[u8]) -> Result<(), ShelfFault> {
         let (folder, temporary) = (self.folder.as_str(), self.temporary.as_str());
-        let outcome = write_in(self.rt, self.alloc, folder, temporary, name, bytes).map_err(
-            on_shelf,
-        );
-        logged_put(&mut self.log, name, bytes, outcome)
+        match put_in(self.rt, self.alloc, folder, temporary, name, bytes) {
+            Ok(_receipt) => logged_put(&mut self.log, name, bytes, Ok(())),
+            Err(fault) => logged_put(&mut self.log, name, bytes, Err(fault.told().on_shelf())),
+        }
     }
 
     fn get(&mut self, name: ShelfName) -> Result<Option<Vec<u8>>, ShelfFault> {
-        let outcome = read_in(self.rt, self.alloc, self.folder.as_str(), name).map_err(on_shelf);
-        logged_get(&mut self.log, name, outcome)
+        match get_in(self.rt, self.alloc, self.folder.as_str(), name) {
+            Ok(Found::Nothing(_receipt)) => logged_get(&mut self.log, name, Ok(None)),
+            Ok(Found::Bytes(bytes)) => logged_get(&mut self.log, name, Ok(Some(bytes))),
+            Err(fault) => logged_get(&mut self.log, name, Err(fault.told().on_shelf())),
+        }
     }
 }

@@ -1,24 +1,21 @@
 //! The files of a shelf in a folder.
-ghost use Rattle.std.specs.Prelude.{◌≡◌, ◌↔◌, IsTrue};
+ghost use Rattle.std.specs.Prelude.{◌≡◌, ◌↔◌, ◌∷◌, [], IfErr, IfOk, IsTrue, OnErr, OnOk};
+ghost use Rattle.std.specs.Path.{path_buf_bytes};
+ghost use Rattle.blob_store.specs.FileCalls.{IsGiven, IsNotGiven, IsNotPut, IsPut, Made, Makes, Stops, moves, path_of, puts};
 ghost use Rattle.blob_store.specs.FileFaults.{HasNoDescriptor, LacksDescriptor};
 ghost use Rattle.blob_store.specs.declared.access_faults.AccessFault.TheVariants as access_fault;
 ghost use Rattle.blob_store.specs.declared.folder_files.FileFault.TheVariants as file_fault;
 
 use crate::access_faults::AccessFault;
+use crate::file_calls::{FileCalls, Looked};
 use crate::shelves::ShelfName;
 use byte_view::PIECE_SIZE;
 use std::alloc::{AllocError, Global};
-use std::fs::{self, File, OpenFile, OpenOptions};
-use std::io::{self, Read, Write};
-use std::os::unix::fs::OpenOptionsExt;
+use std::io;
 use std::path::{Path, PathBuf};
-use std::rt::Files;
 
 /// The bytes of the longest table: that of a file of 256 pieces.
 const MAX_TABLE: usize = 8 + 256 * 20;
-
-/// The permissions of each file: its owner alone reads and writes it.
-const OWNER_ALONE: u32 = 0o600;
 
 /// The numbers of the system's errors if no descriptor is left: in the whole system (ENFILE), and for this process (EMFILE).
 const ENFILE: i32 = 23;
@@ -34,6 +31,11 @@ pub(crate) enum FileFault {
 }
 
 impl From<AllocError> for FileFault {
+    ghost use Rattle.std.specs.Prelude.{◌≡◌};
+    ghost use Rattle.blob_store.specs.declared.folder_files.FileFault.TheVariants.{OutOfMemory};
+
+    ghost from_gives = { λ _ why. why ≡ OutOfMemory };
+
     fn from(_: AllocError) -> FileFault {
         FileFault::OutOfMemory
     }
@@ -60,35 +62,10 @@ fn lacks_descriptor(error: &io::Error) -> bool
     matches!(error.raw_os_error(), Some(ENFILE | EMFILE))
 }
 
-/// What is at the path of a file.
-#[derive(Clone, Copy)]
-enum Found {
-    Nothing,
-    /// Something that is not read: no file, or a file that is too long.
-    Other,
-    /// A file with this many bytes.
-    File(usize),
-}
-
-/// Looks what is at a path. A file of more than `most` bytes is not read.
-fn look<R: Files>(rt: &R, path: &str, most: usize) -> io::Result<Found> {
-    match fs::metadata(rt, path) {
-        Ok(found) if found.is_file() && found.len() <= most as u64 => {
-            Ok(Found::File(found.len() as usize))
-        }
-        Ok(_) => Ok(Found::Other),
-        Err(error) if error.kind() == io::ErrorKind::NotFound => Ok(Found::Nothing),
-        Err(error) => Err(error),
-    }
-}
-
-/// Reads as many bytes of the file at a path as there is room for.
-fn read_file<R: Files>(rt: &R, path: &str, bytes: &mut [u8]) -> io::Result<()> {
-    File::open(rt, path)?.read_exact(bytes)
-}
-
 /// The path of the file under a name in a folder: `c-` or `t-`, and the 40 digits of its digest.
-fn path_in(alloc: Global, folder: &str, name: ShelfName) -> Result<PathBuf, AllocError> {
+fn path_in(alloc: Global, folder: &str, name: ShelfName) -> Result<PathBuf, AllocError>
+    ensures { IfOk result (λ path. path_buf_bytes path ≡ path_of folder.now name) }
+{
     let text = match name {
         ShelfName::Part(digest) => format!(in alloc; "c-{}", digest.to_hex().as_str())?,
         ShelfName::Table(digest) => format!(in alloc; "t-{}", digest.to_hex().as_str())?,
@@ -104,88 +81,104 @@ fn most_of(name: ShelfName) -> usize {
     }
 }
 
-/// The bytes of the file under a name in a folder; none if nothing has this name. Something that is not a file, or is too long, is not read:
-/// the answer is then no bytes, which are neither a piece nor a table.
-pub(crate) fn read_in<R: Files>(
-    rt: &R,
+/// What there is under a name in a folder.
+#[derive(Drop)]
+pub(crate) enum Given {
+    Nothing,
+    /// Something that is not read: no file, or a file that is too long.
+    Other,
+    Bytes(Vec<u8>),
+}
+
+/// What there is under a name in a folder. Something that is no file, or is too long, is not read.
+pub(crate) fn read_in<C: FileCalls>(
+    calls: &mut C,
     alloc: Global,
     folder: &str,
     name: ShelfName,
-) -> Result<Option<Vec<u8>>, FileFault> {
+) -> Result<Given, FileFault>
+    ensures given { IfOk result (λ given. IsGiven folder.now name given (C.calls calls.old) (C.calls calls.new)) }
+    ensures fault { IfErr result (λ fault. IsNotGiven folder.now name fault (C.calls calls.old) (C.calls calls.new)) }
+{
     let path = path_in(alloc, folder, name)?;
-    let len = match look(rt, path.as_str(), most_of(name)) {
-        Ok(Found::Nothing) => return Ok(None),
-        Ok(Found::Other) => return Ok(Some(Vec::new(alloc))),
-        Ok(Found::File(len)) => len,
+    let len = match calls.look(path.as_str(), most_of(name)) {
+        Ok(Looked::Nothing) => return Ok(Given::Nothing),
+        Ok(Looked::Other) => return Ok(Given::Other),
+        Ok(Looked::File(len)) => len,
         Err(error) => return Err(FileFault::Failed(path, error)),
     };
     let mut bytes = vec![in alloc; 0; len]?;
-    match read_file(rt, path.as_str(), bytes.as_mut_slice()) {
-        Ok(()) => Ok(Some(bytes)),
+    match calls.read(path.as_str(), bytes.as_mut_slice()) {
+        Ok(()) => Ok(Given::Bytes(bytes)),
         Err(error) => Err(FileFault::Failed(path, error)),
     }
 }
 
 /// Makes the file of a temporary name anew. Whatever has that name is removed first: a program that was stopped may have left its file there, and
 /// a symbolic link must not lead out of the folder.
-fn create_anew<R: Files>(rt: &R, temporary: &str) -> io::Result<R::File> {
-    let mut options = OpenOptions::new();
-    options.write(true).create_new(true);
-    options.mode(OWNER_ALONE);
-    match options.open(rt, temporary) {
-        Err(error) if error.kind() == io::ErrorKind::AlreadyExists => {
-            fs::remove_file(rt, temporary)?;
-            options.open(rt, temporary)
-        }
-        opened => opened,
+fn make_anew<C: FileCalls>(calls: &mut C, temporary: &str) -> io::Result<()>
+    ensures ok { OnOk result (Makes (Made temporary.now ∷ []) temporary.now (C.calls calls.old) (C.calls calls.new)) }
+    ensures failed { OnErr result (Stops (Made temporary.now ∷ []) temporary.now (C.calls calls.old) (C.calls calls.new)) }
+{
+    let Err(error) = calls.make(temporary) else {
+        return Ok(());
+    };
+    if error.kind() != io::ErrorKind::AlreadyExists {
+        return Err(error);
     }
+    calls.remove(temporary)?;
+    calls.make(temporary)
 }
 
 /// Writes bytes under a temporary name, syncs them, and renames the file to its own name, where it replaces what was there.
-fn write_file<R: Files>(rt: &R, temporary: &str, path: &str, bytes: &[u8]) -> io::Result<()> {
-    let mut file = create_anew(rt, temporary)?;
-    file.write_all(bytes)?;
-    file.sync_all()?;
-    fs::rename(rt, temporary, path)
+fn move_in<C: FileCalls>(calls: &mut C, temporary: &str, path: &str, bytes: &[u8]) -> io::Result<()>
+    ensures ok { OnOk result (Makes (moves temporary.now path.now bytes.now) temporary.now (C.calls calls.old) (C.calls calls.new)) }
+    ensures failed { OnErr result (Stops (moves temporary.now path.now bytes.now) temporary.now (C.calls calls.old) (C.calls calls.new)) }
+{
+    make_anew(calls, temporary)?;
+    calls.write_all(bytes)?;
+    calls.sync()?;
+    calls.rename(temporary, path)
 }
 
-/// Syncs a folder, so that the names in it last.
-fn sync_folder<R: Files>(rt: &R, folder: &str) -> io::Result<()> {
-    File::open(rt, folder)?.sync_all()
-}
-
-/// Writes the file of a table, and syncs the folder.
-fn write_table<R: Files>(
-    rt: &R,
+/// Writes the file of a name, which has this path. Once a table is written, its name lasts, and so do those of all files written before.
+fn put_at<C: FileCalls>(
+    calls: &mut C,
     folder: &str,
     temporary: &str,
+    name: ShelfName,
     path: &str,
     bytes: &[u8],
-) -> io::Result<()> {
-    write_file(rt, temporary, path, bytes)?;
-    sync_folder(rt, folder)
+) -> io::Result<()>
+    requires { path.now ≡ path_of folder.now name }
+    ensures ok { OnOk result (IsPut folder.now temporary.now name bytes.now (C.calls calls.old) (C.calls calls.new)) }
+    ensures failed { OnErr result (Stops (puts folder.now temporary.now name bytes.now) temporary.now (C.calls calls.old) (C.calls calls.new)) }
+{
+    move_in(calls, temporary, path, bytes)?;
+    match name {
+        ShelfName::Part(_) => Ok(()),
+        ShelfName::Table(_) => calls.sync_folder(folder),
+    }
 }
 
-/// Writes the file of a name in a folder, first under a temporary name, which nobody else may use meanwhile. Once a table is written, its name
-/// lasts, and so do those of all files written before. If a call fails, the temporary file is removed, so that a full disk doesn't keep it; if that
-/// fails too, the next put under the temporary name removes it.
-pub(crate) fn write_in<R: Files>(
-    rt: &R,
+/// Writes the file of a name in a folder, first under a temporary name, which nobody else may use meanwhile. If a call fails, the temporary file is removed,
+/// so that a full disk doesn't keep it; if that fails too, the next put under the temporary name removes it.
+pub(crate) fn write_in<C: FileCalls>(
+    calls: &mut C,
     alloc: Global,
     folder: &str,
     temporary: &str,
     name: ShelfName,
     bytes: &[u8],
-) -> Result<(), FileFault> {
+) -> Result<(), FileFault>
+    ensures put { OnOk result (IsPut folder.now temporary.now name bytes.now (C.calls calls.old) (C.calls calls.new)) }
+    ensures fault { IfErr result (λ fault. IsNotPut folder.now temporary.now name bytes.now fault (C.calls calls.old) (C.calls calls.new)) }
+{
     let path = path_in(alloc, folder, name)?;
-    let written = match name {
-        ShelfName::Part(_) => write_file(rt, temporary, path.as_str(), bytes),
-        ShelfName::Table(_) => write_table(rt, folder, temporary, path.as_str(), bytes),
-    };
-    match written {
+    match put_at(calls, folder, temporary, name, path.as_str(), bytes) {
         Ok(()) => Ok(()),
         Err(error) => {
-            let _ = fs::remove_file(rt, temporary);
+            let _ = calls.remove(temporary);
             Err(FileFault::Failed(path, error))
         }
     }

@@ -1,9 +1,17 @@
 //! How threads reach the files of a shelf that they share.
+ghost use Rattle.std.specs.Prelude.{◌≡◌, IfOk};
+ghost use Rattle.blob_store.specs.Receipts.{IsAbsent};
+ghost use Rattle.blob_store.specs.TemporaryNames.{temporary_path};
+
 use crate::access_faults::AccessFault;
-use crate::folder_files::{FileFault, read_in, write_in};
+use crate::folder_files::FileFault;
+use crate::receipts::{
+    AbsenceReceipt, Absent, Found, PutReceipt, ShelfLacks, ShelfPut, Written, get_in, get_of,
+    put_in, put_on,
+};
 use crate::shelf_files::Files;
 use crate::shelves::{Shelf, ShelfName};
-use crate::temporary_names::TemporaryNames;
+use crate::temporary_names::{TemporaryNames, temporary_in};
 use operator_notices::{Kind, Notices, reason_of};
 use std::alloc::Global;
 use std::sync::{Mutex, Wait};
@@ -11,8 +19,9 @@ use std::sync::{Mutex, Wait};
 /// Why a file can't be opened if no descriptor is left.
 const NO_DESCRIPTOR: &str = "no descriptor is left";
 
-/// Makes calls of a shelf that threads share. No clause says what it does and gives.
-pub trait ShelfAccess<S> {
+/// Makes calls of a shelf that threads share. Who puts bytes, or finds nothing, hands over a receipt for that: `U` shows that bytes were
+/// put, and `N` that nothing was found. They are parameters, and no associated types, since bounds of those can't go to threads.
+pub trait ShelfAccess<S, U: PutReceipt + Drop, N: AbsenceReceipt + Drop> {
     /// Puts bytes under a name.
     fn put<W: Wait>(
         &self,
@@ -20,7 +29,8 @@ pub trait ShelfAccess<S> {
         files: &Mutex<Files<S>>,
         name: ShelfName,
         bytes: &[u8],
-    ) -> Result<(), AccessFault>;
+    ) -> Result<U, AccessFault>
+        ensures put { IfOk result (λ receipt. (U.put_name receipt ≡ name) × (U.put_bytes receipt ≡ bytes.now)) };
 
     /// What the shelf has under a name.
     fn get<W: Wait>(
@@ -28,26 +38,24 @@ pub trait ShelfAccess<S> {
         rt: &W,
         files: &Mutex<Files<S>>,
         name: ShelfName,
-    ) -> Result<Option<Vec<u8>>, AccessFault>;
+    ) -> Result<Found<N>, AccessFault>
+        ensures absent { IfOk result (λ found. IsAbsent N.absent_name name found) };
 }
 
 /// Locks the shelf for each call: so one call is made at a time.
 #[derive(Drop)]
 pub struct LockedAccess;
 
-impl<S: Shelf> ShelfAccess<S> for LockedAccess {
+impl<S: Shelf> ShelfAccess<S, ShelfPut<S>, ShelfLacks<S>> for LockedAccess {
     fn put<W: Wait>(
         &self,
         rt: &W,
         files: &Mutex<Files<S>>,
         name: ShelfName,
         bytes: &[u8],
-    ) -> Result<(), AccessFault> {
-        files
-            .lock(rt)
-            .shelf_mut()
-            .put(name, bytes)
-            .map_err(AccessFault::of_shelf)
+    ) -> Result<ShelfPut<S>, AccessFault> {
+        let mut files = files.lock(rt);
+        put_on(files.shelf_mut(), name, bytes).map_err(AccessFault::of_shelf)
     }
 
     fn get<W: Wait>(
@@ -55,12 +63,9 @@ impl<S: Shelf> ShelfAccess<S> for LockedAccess {
         rt: &W,
         files: &Mutex<Files<S>>,
         name: ShelfName,
-    ) -> Result<Option<Vec<u8>>, AccessFault> {
-        files
-            .lock(rt)
-            .shelf_mut()
-            .get(name)
-            .map_err(AccessFault::of_shelf)
+    ) -> Result<Found<ShelfLacks<S>>, AccessFault> {
+        let mut files = files.lock(rt);
+        get_of(files.shelf_mut(), name).map_err(AccessFault::of_shelf)
     }
 }
 
@@ -108,22 +113,36 @@ impl<'a, R> FolderAccess<'a, R> {
     }
 }
 
-impl<S, R: std::rt::Files> ShelfAccess<S> for FolderAccess<'_, R> {
+impl<R: std::rt::Files> FolderAccess<'_, R> {
+    /// Puts bytes under a name, first under the temporary name of a number.
+    fn put_as(&self, number: usize, name: ShelfName, bytes: &[u8]) -> Result<Written, FileFault>
+        ensures place { IfOk result (λ written. (written.folder.numbers ≡ self.now.folder.now) × (written.temporary.numbers ≡ temporary_path self.now.folder.now number)) }
+        ensures put { IfOk result (λ written. (written.name.value ≡ name) × (written.bytes.numbers ≡ bytes.now)) }
+    {
+        let temporary = temporary_in(self.alloc, self.folder, number)?;
+        put_in(
+            self.rt,
+            self.alloc,
+            self.folder,
+            temporary.as_str(),
+            name,
+            bytes,
+        )
+    }
+}
+
+impl<S, R: std::rt::Files> ShelfAccess<S, Written, Absent> for FolderAccess<'_, R> {
     fn put<W: Wait>(
         &self,
         rt: &W,
         _: &Mutex<Files<S>>,
         name: ShelfName,
         bytes: &[u8],
-    ) -> Result<(), AccessFault> {
-        let temporary = self
-            .temporaries
-            .lock(rt)
-            .take(self.folder)
-            .map_err(|_| AccessFault::OutOfMemory)?;
-        let path = temporary.as_str();
-        let outcome = write_in(self.rt, self.alloc, self.folder, path, name, bytes);
-        self.temporaries.lock(rt).give_back(temporary);
+    ) -> Result<Written, AccessFault> {
+        let taken = self.temporaries.lock(rt).take();
+        let number = taken.map_err(|_| AccessFault::OutOfMemory)?;
+        let outcome = self.put_as(number, name, bytes);
+        self.temporaries.lock(rt).give_back(number);
         outcome.map_err(|fault| self.tell(fault))
     }
 
@@ -132,7 +151,7 @@ impl<S, R: std::rt::Files> ShelfAccess<S> for FolderAccess<'_, R> {
         _: &W,
         _: &Mutex<Files<S>>,
         name: ShelfName,
-    ) -> Result<Option<Vec<u8>>, AccessFault> {
-        read_in(self.rt, self.alloc, self.folder, name).map_err(|fault| self.tell(fault))
+    ) -> Result<Found<Absent>, AccessFault> {
+        get_in(self.rt, self.alloc, self.folder, name).map_err(|fault| self.tell(fault))
     }
 }

@@ -1,45 +1,74 @@
 //! The names under which threads write files at first.
+ghost use Rattle.std.specs.Prelude.{◌≡◌, ◌≤◌, [], IfOk, OnErr, false, get_or, length};
+ghost use Rattle.std.specs.Path.{path_buf_bytes};
+ghost use Rattle.blob_store.specs.TemporaryNames.{IsFreed, IsTaken, temporary_path};
+
 use std::alloc::{AllocError, Global};
 use std::path::{Path, PathBuf};
 
-/// Paths in a folder under which files are written at first. Each is taken by one writer at a time, so there are about as many as there were
-/// writers at once: a path that can't be taken back is lost.
+/// The numbers of temporary names. One writer has a number at a time, so there are as many as there were writers at once.
 #[derive(Drop)]
 pub(crate) struct TemporaryNames {
-    alloc: Global,
-    free: Vec<PathBuf>,
-    made: u64,
+    // Whether somebody has the number of this place.
+    taken: Vec<bool>,
 }
 
 impl TemporaryNames {
-    /// No name yet.
-    pub(crate) fn new(alloc: Global) -> TemporaryNames {
+    /// Nobody has any.
+    pub(crate) fn new(alloc: Global) -> TemporaryNames
+        ensures { result.taken.items ≡ [] }
+    {
         TemporaryNames {
-            alloc,
-            free: Vec::new(alloc),
-            made: 0,
+            taken: Vec::new(alloc),
         }
     }
 
-    /// The path of the next name in a folder: `blob-0.tmp`, and so on.
-    fn make(&mut self, folder: &str) -> Result<PathBuf, AllocError> {
-        let number = self.made;
-        let name = format!(in self.alloc; "blob-{number}.tmp")?;
-        let path = Path::new(folder).join(self.alloc, name.as_str())?;
-        self.made = number.saturating_add(1);
-        Ok(path)
+    /// Takes the least number that nobody has.
+    pub(crate) fn take(&mut self) -> Result<usize, AllocError>
+        ensures ok { IfOk result (λ number. IsTaken self.old.taken.items number self.new.taken.items) }
+        ensures err { OnErr result (self.new.taken.items ≡ self.old.taken.items) }
+    {
+        let count = self.taken.len();
+        let number = first_free(self.taken.as_slice());
+        if number < count {
+            self.taken[number] = true;
+        } else {
+            self.taken.push(true)?;
+        }
+        Ok(number)
     }
 
-    /// Takes a path in a folder that nobody has.
-    pub(crate) fn take(&mut self, folder: &str) -> Result<PathBuf, AllocError> {
-        match self.free.pop() {
-            Some(path) => Ok(path),
-            None => self.make(folder),
+    /// Takes a number back.
+    pub(crate) fn give_back(&mut self, number: usize)
+        ensures { IsFreed self.old.taken.items number self.new.taken.items }
+    {
+        if number < self.taken.len() {
+            self.taken[number] = false;
         }
     }
+}
 
-    /// Takes a path back. Without memory to keep it, it isn't used again in this run.
-    pub(crate) fn give_back(&mut self, path: PathBuf) {
-        let _ = self.free.push(path);
+/// The first place that nobody has; the end if somebody has each.
+fn first_free(taken: &[bool]) -> usize
+    ensures free { get_or taken.now result false ≡ false }
+    ensures within { result ≤ length taken.now }
+{
+    for (number, taken) in taken.iter().enumerate() {
+        if !taken {
+            return number;
+        }
     }
+    taken.len()
+}
+
+/// The path of the temporary name of a number in a folder: `blob-0.tmp`, and so on.
+pub(crate) fn temporary_in(
+    alloc: Global,
+    folder: &str,
+    number: usize,
+) -> Result<PathBuf, AllocError>
+    ensures { IfOk result (λ path. path_buf_bytes path ≡ temporary_path folder.now number) }
+{
+    let name = format!(in alloc; "blob-{number}.tmp")?;
+    Path::new(folder).join(alloc, name.as_str())
 }

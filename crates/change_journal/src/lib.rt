@@ -1,11 +1,14 @@
-//! The journal of a host: the entries of its history, on a disk. Whenever the machine stops, a modelled disk has each entry whole or not at
-//! all.
+//! The journal of a host: the entries of its history, on a disk. Their texts are the bodies of a file of records. Whenever the machine stops, a
+//! modelled disk has each entry whole or not at all.
 #![tactic(auto)]
 
-mod entries;
-mod file;
-mod texts;
+mod collecting;
+mod held;
+mod journals;
+pub mod laws;
+mod losses;
+mod prepared;
 
-pub use entries::{Journal, NotOpened, Prepared, laws, prepare};
-pub use file::{OpenFault, PutFault};
-pub use texts::{DecodeFault, decode, encode};
+pub use journals::{Journal, NotOpened};
+pub use losses::look;
+pub use prepared::{Prepared, prepare};

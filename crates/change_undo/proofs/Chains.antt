@@ -15,11 +15,12 @@ use Rattle.std.proofs.lemmas.List.Elements.{filter-append}
 use Rattle.std.proofs.lemmas.Map.Text.{is_eq-slice_cmp}
 use Rattle.std.proofs.lemmas.Slice.Eq.{bytes_eq-Decides}
 use Rattle.host_names.specs.declared.names.SiteName.{SiteName}
-use Rattle.persistent_collections.specs.Edits.{edited}
-use Rattle.persistent_collections.proofs.Edits.{find-edited, Rises-edited}
-use Rattle.change_undo.specs.declared.entries.Entry.{Entry}
-use Rattle.change_undo.specs.Histories.{same_site, site_of_entry}
-use Rattle.change_undo.specs.Logs.{Log, numbered}
+use Rattle.persistent_maps.specs.Edits.{edited}
+use Rattle.persistent_maps.proofs.Edits.{find-edited, Rises-edited}
+use Rattle.site_change.specs.declared.entries.Entry.{Entry}
+use Rattle.site_change.specs.Entries.{site_of_entry}
+use Rattle.change_undo.specs.Histories.{same_site}
+use Rattle.change_log.specs.Logs.{Log, numbered}
 use Rattle.change_undo.specs.SiteEntries.{numbers_of}
 use Rattle.change_undo.specs.SiteIndexes.{site_cmp, last_of, before, trail, Leads, LeadsOn, AreChained}
 

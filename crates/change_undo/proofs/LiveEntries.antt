@@ -9,11 +9,11 @@ use Rattle.site_change.specs.declared.refusals.ChangeRefusal.TheVariants.{Histor
 use Rattle.site_change.specs.declared.commands.Command.{Command}
 use Rattle.site_change.specs.Changes.{site_of_command}
 use Rattle.site_change.proofs.Effects.{bytes_eq-itself}
-use Rattle.change_undo.specs.declared.entries.Entry.{Entry}
-use Rattle.change_undo.specs.declared.entries.Entry.TheVariants.{Change, Undo}
+use Rattle.site_change.specs.declared.entries.Entry.{Entry}
+use Rattle.site_change.specs.declared.entries.Entry.TheVariants.{Change, Undo}
 use Rattle.change_undo.specs.Clashes.{IsClash, clash}
 use Rattle.change_undo.specs.Histories.{undone, is_among, live_from, live_changes, same_site, entry_at, marked, marked_entry, refusal_at, change_refusal, undo_refusal, IsLegalAfter, IsLegal}
-use Rattle.change_undo.specs.Logs.{Log, BeginsWith, last_number}
+use Rattle.change_log.specs.Logs.{Log, BeginsWith, last_number}
 use Rattle.change_undo.proofs.LeavingOut.{live-at}
 use Rattle.change_undo.proofs.Opened.{at_place}
 use Rattle.change_undo.proofs.Places.{first_or_more}

@@ -4,7 +4,7 @@ use Rattle.host_names.specs.declared.names.SiteName.{SiteName}
 use Rattle.site_change.specs.declared.plans.Plan.{Plan}
 use Rattle.touch_index.specs.Keys.{touched_keys}
 use Rattle.touch_index.specs.Postings.{Postings, is_among, is_posted}
-use Rattle.change_undo.specs.declared.entries.Entry.{Entry}
+use Rattle.site_change.specs.declared.entries.Entry.{Entry}
 use Rattle.change_undo.specs.declared.marks.Mark.{Mark}
 use Rattle.change_undo.specs.Kept.{plan_of}
 use Rattle.change_undo.specs.PlannedEntries.{PlannedEntry, with_marks}

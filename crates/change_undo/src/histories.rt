@@ -5,22 +5,21 @@ ghost use Rattle.byte_view.specs.Contents.{Contents};
 ghost use Rattle.site_change.specs.Refusals.{IsRefusedBy};
 ghost use Rattle.site_change.specs.Changes.{applied};
 ghost use Rattle.site_change.specs.Uploaded.{AreUploaded};
-ghost use Rattle.change_undo.specs.declared.entries.Entry.TheVariants as entry;
+ghost use Rattle.site_change.specs.declared.entries.Entry.TheVariants as entry;
 ghost use Rattle.change_undo.specs.Clashes;
 ghost use Rattle.change_undo.specs.Effects.{UndoesChange};
 ghost use Rattle.change_undo.specs.Histories;
-ghost use Rattle.change_undo.specs.Logs;
-ghost use Rattle.change_undo.specs.Logs.{empty_log, last_number, next_number, with_entry};
+ghost use Rattle.change_log.specs.Logs;
+ghost use Rattle.change_log.specs.Logs.{empty_log, last_number, next_number, with_entry};
 ghost use Rattle.change_undo.specs.Plans.{IsHistoryOver, IsRecorded};
 ghost use Rattle.change_undo.specs.SiteEntries.{numbers_of};
 
-use crate::entries::Entry;
-use crate::logs::Log;
 use crate::records::Records;
 use crate::site_entries::SiteEntries;
 use byte_view::Uploads;
+use change_log::Log;
 use host_names::{Cell, SiteName};
-use site_change::{ChangeError, ChangeRefusal, Command, Plan, decide, uploads_are_digested};
+use site_change::{ChangeError, ChangeRefusal, Command, Entry, Plan, decide, uploads_are_digested};
 use site_state::State;
 use std::alloc::{AllocError, Global};
 use std::marker::Model;
@@ -46,7 +45,7 @@ pub struct History {
 
 impl Model for History {
     ghost use Rattle.std.specs.Coded.{coded_list, coded_option};
-    ghost use Rattle.change_undo.specs.contracts.entries.Entry as entry;
+    ghost use Rattle.site_change.specs.contracts.entries.Entry as entry;
     ghost use Rattle.site_change.specs.contracts.plans.Plan as plan;
     ghost use Rattle.site_state.specs.contracts.states.State as states;
     ghost use Rattle.change_undo.specs.Histories.{Past};

@@ -3,20 +3,20 @@ ghost use Rattle.std.specs.Prelude.{◌≡◌, ◌+◌, ◌-◌, ◌<◌, ◌≤
 ghost use Rattle.site_state.specs.Changes.{writes};
 ghost use Rattle.site_state.specs.States.{with_cells};
 ghost use Rattle.site_state.specs.declared.changes.Side.TheVariants.{After, Before};
-ghost use Rattle.change_undo.specs.declared.entries.Entry.TheVariants as entry;
+ghost use Rattle.site_change.specs.declared.entries.Entry.TheVariants as entry;
 ghost use Rattle.change_undo.specs.Indexed.{IsIndexOf};
-ghost use Rattle.change_undo.specs.Kept.{AreWritable, changes_of, plan_at, plan_of};
+ghost use Rattle.change_log.specs.Appending.{AreWritable};
+ghost use Rattle.change_undo.specs.Kept.{changes_of, plan_at, plan_of};
 ghost use Rattle.change_undo.specs.PlannedEntries.{entries_of, mark_at, marks_of, plan_in, with_undone};
 ghost use Rattle.change_undo.specs.SiteEntries.{numbers_of};
 
-use crate::entries::Entry;
-use crate::logs::Log;
 use crate::marks::Mark;
-use crate::shared::Shared;
 use crate::site_entries::{SiteEntries, SiteIndex};
+use change_log::Log;
 use host_names::SiteName;
-use persistent_collections::SharedList;
-use site_change::{Command, Plan};
+use persistent_lists::SharedList;
+use shared_blocks::Shared;
+use site_change::{Command, Entry, Plan};
 use site_state::{Change, Side, State};
 use std::alloc::{AllocError, Global};
 use std::marker::Model;
@@ -37,7 +37,7 @@ pub(crate) struct Records {
 
 impl Model for Records {
     ghost use Rattle.std.specs.Prelude.{List};
-    ghost use Rattle.change_undo.specs.contracts.entries.Entry as entry;
+    ghost use Rattle.site_change.specs.contracts.entries.Entry as entry;
     ghost use Rattle.site_change.specs.contracts.plans.Plan as plan;
     ghost use Rattle.change_undo.specs.Indexed.{BelongTogether};
     ghost use Rattle.change_undo.specs.PlannedEntries.{PlannedEntry, coded_planned, with_marks};

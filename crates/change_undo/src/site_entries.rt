@@ -1,12 +1,13 @@
 //! Which entries each site has.
 ghost use Rattle.std.specs.Prelude.{◌≡◌, ◌<◌, ◌++◌, ◌∷◌, [], true, Some, IfOk, OnOk};
 ghost use Rattle.std.specs.Iterator.{YieldsFirst, item_count};
-ghost use Rattle.persistent_collections.specs.Edits.{edited};
+ghost use Rattle.persistent_maps.specs.Edits.{edited};
 ghost use Rattle.change_undo.specs.SiteIndexes as spec;
 ghost use Rattle.change_undo.specs.SiteIndexes.{LeadsOn, site_cmp};
 
 use host_names::SiteName;
-use persistent_collections::{Probe, SharedList, SharedMap};
+use persistent_lists::SharedList;
+use persistent_maps::{Probe, SharedMap};
 use std::alloc::{AllocError, Global};
 use std::cmp::Ordering;
 use std::iter::Iterator;

@@ -14,7 +14,7 @@ mod works;
 use anyhow::{Result, anyhow};
 use blob_store::DirShelf;
 use gates::Gates;
-use host_disk::FileDisk;
+use host_disk::{FileDisk, LockedFolder};
 use played::Play;
 use stages::stage_of;
 use std::io::{BufRead, BufReader};
@@ -30,15 +30,29 @@ pub(crate) fn read_lines(rt: &HostRuntime) -> Result<Vec<String>> {
     Ok(lines)
 }
 
-/// The disk and the shelf in a folder.
+/// What a store is kept on: the disks of its journal's two slots, and its shelf.
+#[derive(Drop)]
+pub(crate) struct Store<D, S> {
+    pub(crate) first: D,
+    pub(crate) second: D,
+    pub(crate) shelf: S,
+}
+
+/// What a folder keeps a store on.
 pub(crate) fn open_folder<'a>(
     rt: &'a HostRuntime,
     folder: &str,
-) -> Result<(FileDisk<'a, HostRuntime>, DirShelf<'a, HostRuntime>)> {
+) -> Result<Store<FileDisk<'a, HostRuntime>, DirShelf<'a, HostRuntime>>> {
     let alloc = rt.alloc();
-    let path = PathBuf::from_str(alloc, folder)?.join(alloc, "journal")?;
-    let disk = FileDisk::open(rt, path)?;
-    Ok((disk, DirShelf::new(rt, alloc, folder)?))
+    let first = PathBuf::from_str(alloc, folder)?.join(alloc, "journal")?;
+    let second = PathBuf::from_str(alloc, folder)?.join(alloc, "journal.2")?;
+    let locked = LockedFolder::lock(rt, folder)?;
+    let (first, second) = FileDisk::open_both(rt, locked, first, second)?;
+    Ok(Store {
+        first,
+        second,
+        shelf: DirShelf::new(rt, alloc, folder)?,
+    })
 }
 
 /// What is played, by the word `desk` and that of a stage.

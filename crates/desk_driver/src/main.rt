@@ -19,9 +19,9 @@ fn main(rt: HostRuntime) -> Result<()> {
         return group::answer(&rt, rt.alloc(), words.as_slice());
     };
     let lines = read_lines(&rt)?;
-    let (disk, shelf) = open_folder(&rt, folder.as_str())?;
+    let store = open_folder(&rt, folder.as_str())?;
     let gates = Gates::new();
     let play = play_of(word.as_str(), stage.as_str(), &gates, lines.as_slice())?;
     // Only here has the runtime threads.
-    play_in(&rt, rt.alloc(), &play, disk, shelf)
+    play_in(&rt, rt.alloc(), &play, store)
 }

@@ -12,7 +12,7 @@ use command_line::ServeOptions;
 use found_host::OpenFault;
 use host_disk::FileDisk;
 use host_nodes::{has_ports, open_memory, refuse_memory, refuse_ports, run_serve};
-use host_server::{open_folder, run_solo};
+use host_server::{Store, open_folder, run_solo};
 use http_wire::Writing;
 use node_process::{GivingAccess, Halt, HaltingShelf, Stop, Surroundings};
 use operator_notices::Notices;
@@ -62,12 +62,12 @@ fn main(rt: HostRuntime) -> ExitCode {
 }
 
 /// What is opened of a store in a folder.
-type OpenedFolder<'a> = (
+type OpenedFolder<'a> = Store<
     FileDisk<'a, HostRuntime>,
     HaltingShelf<'a, DirShelf<'a, HostRuntime>, HostRuntime, ThisProcess<'a>>,
-);
+>;
 
-/// Opens the store in a folder: its disk tells why a call failed, and the opening of its shelf stops once the program is asked to end.
+/// Opens the store in a folder: its disks tell why a call failed, and the opening of its shelf stops once the program is asked to end.
 fn opened_folder<'a>(
     rt: &'a HostRuntime,
     alloc: Global,
@@ -75,8 +75,12 @@ fn opened_folder<'a>(
     notices: &'a Notices,
     halt: &'a Halt<'a, HostRuntime, ThisProcess<'a>>,
 ) -> Result<OpenedFolder<'a>, OpenFault> {
-    let (disk, shelf) = open_folder(rt, alloc, folder)?;
-    Ok((disk.told(notices), HaltingShelf::new(shelf, halt)))
+    let store = open_folder(rt, alloc, folder)?;
+    Ok(Store {
+        first: store.first.told(notices),
+        second: store.second.told(notices),
+        shelf: HaltingShelf::new(store.shelf, halt),
+    })
 }
 
 /// The store in a folder, as it is opened, and how threads reach its files.

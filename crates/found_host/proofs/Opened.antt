@@ -2,14 +2,13 @@
 use Rattle.std.proofs.Common.{◌≡◌, ◌⊎◌, inl, inr, List, IsTrue, ℕ, false, refl, subst, sym}
 use Rattle.byte_view.specs.Contents.{Contents}
 use Rattle.blob_store.specs.Calls.{Call}
-use Rattle.change_undo.specs.declared.entries.Entry.{Entry}
-use Rattle.change_journal.specs.entries.Held.{Keeps}
-use Rattle.change_journal.specs.entries.Files.{header}
-use Rattle.change_journal.specs.entries.Texts.{AllStored, IsText, texts}
-use Rattle.change_journal.specs.file.Openings.{IsForeign, IsFound}
-use Rattle.change_journal.specs.file.Walks.{IsBadRecord, IsOnlyRead, TellsStop}
-use Rattle.change_journal.specs.declared.file.faults.OpenFault as of_disk
-use Rattle.change_journal.specs.declared.file.faults.OpenFault.TheVariants as journal_fault
+use Rattle.site_change.specs.declared.entries.Entry.{Entry}
+use Rattle.change_journal.specs.Held.{Keeps}
+use Rattle.change_journal.specs.Faults.{StopsEither}
+use Rattle.change_journal.specs.Texts.{AllStored, IsText, texts}
+use Rattle.record_file.specs.Pairs.{AreForeign, BothOnlyRead, FoundBoth, ReadsBad}
+use Rattle.record_file.specs.declared.faults.OpenFault as of_disk
+use Rattle.record_file.specs.declared.faults.OpenFault.TheVariants as journal_fault
 use Rattle.host_disk.specs.declared.disks.Disk.{Ghosts}
 use Rattle.host_opening.specs.Replays.{StopsAt}
 use Rattle.host_opening.specs.declared.replays.ReplayFault.{ReplayFault}
@@ -19,13 +18,13 @@ use Rattle.found_host.specs.declared.faults.OpenFault.{OpenFault}
 use Rattle.found_host.specs.declared.faults.OpenFault.TheVariants as fault
 
 -- the entries that were found are the journal's
-pub has_journal : {D : Type 0} (disk : Ghosts D) (old : D) (journal : Keeps D) (log : List Entry) → (journal.entries ≡ log) × (journal.broken ≡ false)
-    → (IsTrue disk.is_modelled → IsFound header (texts log) (disk.seen old)) → (IsTrue disk.is_modelled → AllStored (disk.may_leave journal.disk) log)
-    → disk.faults journal.disk ≡ disk.faults old → HasJournal disk old journal
-has_journal disk old journal log are found stored no_fault = record {
+pub has_journal : {D : Type 0} (disk : Ghosts D) (first second : D) (journal : Keeps D) (log : List Entry) → (journal.entries ≡ log) × (journal.broken ≡ false)
+    → (IsTrue disk.is_modelled → FoundBoth (texts log) (disk.seen first) (disk.seen second)) → (IsTrue disk.is_modelled → AllStored (disk.may_leave journal.first) (disk.may_leave journal.second) log)
+    → (disk.faults journal.first ≡ disk.faults first) × (disk.faults journal.second ≡ disk.faults second) → HasJournal disk first second journal
+has_journal disk first second journal log are found stored no_fault = record {
   whole = are.1;
-  found = subst (λ entries. IsTrue disk.is_modelled → IsFound header (texts entries) (disk.seen old)) (sym are.0) found;
-  stored = subst (λ entries. IsTrue disk.is_modelled → AllStored (disk.may_leave journal.disk) entries) (sym are.0) stored;
+  found = subst (λ entries. IsTrue disk.is_modelled → FoundBoth (texts entries) (disk.seen first) (disk.seen second)) (sym are.0) found;
+  stored = subst (λ entries. IsTrue disk.is_modelled → AllStored (disk.may_leave journal.first) (disk.may_leave journal.second) entries) (sym are.0) stored;
   no_fault = no_fault;
 }
 
@@ -48,15 +47,15 @@ not_there did old limit entries fault.BlobsDevice new why = why
 not_there did old limit entries fault.OutOfMemory new why = inl why
 
 -- why the journal can't be opened
-pub journal_stops : {D : Type 0} (disk : Ghosts D) (old : D) (why : of_disk.OpenFault) (new : D)
-    → (IsTrue disk.is_modelled → why ≡ journal_fault.BadHeader → IsForeign header (disk.seen old))
-    → (IsTrue disk.is_modelled → (number : ℕ) → why ≡ journal_fault.BadRecord number → IsBadRecord header (λ before. IsText) number (disk.seen old))
-    → (IsTrue disk.is_modelled → (why ≡ journal_fault.Device → ⊥) → IsOnlyRead disk.seen disk.may_leave disk.moment disk.left_since old new)
-    → IsSpared disk old new → TellsStop why (disk.faults old) (disk.faults new) → IsJournalFault disk old (of_journal why) new
-journal_stops disk old journal_fault.BadHeader new foreign bad unwritten spared told = (λ modelled. foreign modelled refl, λ modelled. unwritten modelled (λ e. absurd (cc e)))
-journal_stops disk old (journal_fault.BadRecord number) new foreign bad unwritten spared told = (λ modelled. bad modelled number refl, λ modelled. unwritten modelled (λ e. absurd (cc e)))
-journal_stops disk old journal_fault.Device new foreign bad unwritten spared told = (told.0 refl, spared)
-journal_stops disk old journal_fault.OutOfMemory new foreign bad unwritten spared told = λ modelled. unwritten modelled (λ e. absurd (cc e))
+pub journal_stops : {D : Type 0} (disk : Ghosts D) (first second : D) (why : of_disk.OpenFault) (new_first new_second : D)
+    → (IsTrue disk.is_modelled → why ≡ journal_fault.BadHeader → AreForeign (disk.seen first) (disk.seen second))
+    → (IsTrue disk.is_modelled → (number : ℕ) → why ≡ journal_fault.BadRecord number → ReadsBad (λ before. IsText) number (disk.seen first) (disk.seen second))
+    → (IsTrue disk.is_modelled → (why ≡ journal_fault.Device → ⊥) → BothOnlyRead disk.seen disk.may_leave disk.moment disk.left_since first second new_first new_second)
+    → IsSpared disk first second new_first new_second → StopsEither why (disk.faults first) (disk.faults second) (disk.faults new_first) (disk.faults new_second) → IsJournalFault disk first second (of_journal why) new_first new_second
+journal_stops disk first second journal_fault.BadHeader new_first new_second foreign bad unwritten spared told = (λ modelled. foreign modelled refl, λ modelled. unwritten modelled (λ e. absurd (cc e)))
+journal_stops disk first second (journal_fault.BadRecord number) new_first new_second foreign bad unwritten spared told = (λ modelled. bad modelled number refl, λ modelled. unwritten modelled (λ e. absurd (cc e)))
+journal_stops disk first second journal_fault.Device new_first new_second foreign bad unwritten spared told = (told, spared)
+journal_stops disk first second journal_fault.OutOfMemory new_first new_second foreign bad unwritten spared told = λ modelled. unwritten modelled (λ e. absurd (cc e))
 
 -- ---- which fault of the journal is told as which
 

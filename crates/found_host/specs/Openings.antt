@@ -1,19 +1,18 @@
 -- What an opening of a host gives, and why there is none.
-use Rattle.std.specs.Prelude.{◌≡◌, ◌⊎◌, ℕ, ◌+◌, ◌-◌, ◌^◌, min, List, Some, IsTrue, false}
+use Rattle.std.specs.Prelude.{◌≡◌, ◌⊎◌, ℕ, List, Some, IsTrue, false}
 use Rattle.byte_view.specs.Contents.{Contents}
 use Rattle.blob_store.specs.Calls.{Call}
 use Rattle.blob_store.specs.Openings as blobs
 use Rattle.blob_store.specs.declared.openings.OpenFault as of_files
 use Rattle.blob_store.specs.declared.openings.OpenFault.TheVariants as blobs_fault
 use Rattle.blob_store.specs.declared.openings.Wanted.{Wanted}
-use Rattle.change_undo.specs.Logs.{Log}
-use Rattle.change_journal.specs.entries.Held.{Keeps}
-use Rattle.change_journal.specs.entries.Files.{header}
-use Rattle.change_journal.specs.entries.Texts.{AllStored, IsText, texts}
-use Rattle.change_journal.specs.file.Openings.{IsForeign, IsFound, IsRefused}
-use Rattle.change_journal.specs.file.Walks.{IsBadRecord, IsOnlyRead}
-use Rattle.change_journal.specs.declared.file.faults.OpenFault as of_disk
-use Rattle.change_journal.specs.declared.file.faults.OpenFault.TheVariants as journal_fault
+use Rattle.change_log.specs.Logs.{Log}
+use Rattle.change_journal.specs.Held.{Keeps}
+use Rattle.change_journal.specs.Faults.{StopsEither}
+use Rattle.change_journal.specs.Texts.{AllStored, IsText, texts}
+use Rattle.record_file.specs.Pairs.{AreForeign, AreRefused, BothOnlyRead, FoundBoth, ReadsBad}
+use Rattle.record_file.specs.declared.faults.OpenFault as of_disk
+use Rattle.record_file.specs.declared.faults.OpenFault.TheVariants as journal_fault
 use Rattle.host_disk.specs.declared.disks.Disk.{Ghosts}
 use Rattle.host_opening.specs.Replays.{StopsAt}
 use Rattle.host_opening.specs.WantedFiles.{AreWanted}
@@ -25,18 +24,19 @@ use Rattle.found_host.specs.Remains.{Remains}
 
 -- ---- what is opened
 
--- the disk has an open journal: of a modelled one, its entries are those that the file held, and whatever a crash leaves holds them
-pub record HasJournal {D : Type 0} (disk : Ghosts D) (old : D) (journal : Keeps D) : Type 0 where
+-- two slots have an open journal: of modelled disks, its entries are those that they held, and whatever a crash leaves holds them
+pub record HasJournal {D : Type 0} (disk : Ghosts D) (first second : D) (journal : Keeps D) : Type 0 where
   pub whole : journal.broken ≡ false
-  pub found : IsTrue disk.is_modelled → IsFound header (texts journal.entries) (disk.seen old)
-  pub stored : IsTrue disk.is_modelled → AllStored (disk.may_leave journal.disk) journal.entries
-  pub no_fault : disk.faults journal.disk ≡ disk.faults old
+  pub found : IsTrue disk.is_modelled → FoundBoth (texts journal.entries) (disk.seen first) (disk.seen second)
+  pub stored : IsTrue disk.is_modelled → AllStored (disk.may_leave journal.first) (disk.may_leave journal.second) journal.entries
+  pub no_fault : (disk.faults journal.first ≡ disk.faults first) × (disk.faults journal.second ≡ disk.faults second)
 
--- the journal of a disk was opened, and the disk is handed back
-pub record HadJournal {D : Type 0} (disk : Ghosts D) (old new : D) : Type 0 where
+-- the journal of two slots was opened, and their disks are handed back
+pub record HadJournal {D : Type 0} (disk : Ghosts D) (first second new_first new_second : D) : Type 0 where
   pub journal : Keeps D
-  pub has_journal : HasJournal disk old journal
-  pub is : new ≡ journal.disk
+  pub has_journal : HasJournal disk first second journal
+  pub first_is : new_first ≡ journal.first
+  pub second_is : new_second ≡ journal.second
 
 -- of the files that these entries want, those that the shelf gave whole are known
 pub record HasFiles {S : Type 0} (did : S → Call → S → Type 0) (old : S) (entries : Log) (known : Contents) (new : S) : Type 0 where
@@ -44,34 +44,37 @@ pub record HasFiles {S : Type 0} (did : S → Call → S → Type 0) (old : S) (
   pub are_wanted : AreWanted entries wanted
   pub opened : blobs.IsOpened did old wanted known new
 
--- A host is found: the journal of the disk is open, and its entries are accepted in turn over the files that they want, of as many as the limit says.
-pub record IsOpened {S D : Type 0} (disk : Ghosts D) (did : S → Call → S → Type 0) (old : D) (shelf : S) (limit : ℕ) (found : Remains D S) : Type 0 where
-  pub has_journal : HasJournal disk old found.journal
+-- A host is found: the journal of two slots is open, and its entries are accepted in turn over the files that they want, of as many as the limit says.
+pub record IsOpened {S D : Type 0} (disk : Ghosts D) (did : S → Call → S → Type 0) (first second : D) (shelf : S) (limit : ℕ) (found : Remains D S) : Type 0 where
+  pub has_journal : HasJournal disk first second found.journal
   pub limit_is : found.limit ≡ limit
   pub has_files : HasFiles did shelf found.journal.entries found.store.known found.store.shelf
 
 -- ---- why there is none, in the order in which it is told
 
--- of a modelled disk: nothing was written
-abbrev pub IsUnwritten : {D : Type 0} → Ghosts D → D → D → Type 0
-IsUnwritten disk old new = IsTrue disk.is_modelled → IsOnlyRead disk.seen disk.may_leave disk.moment disk.left_since old new
+-- of modelled disks: nothing was written
+abbrev pub IsUnwritten : {D : Type 0} → Ghosts D → (first second new_first new_second : D) → Type 0
+IsUnwritten disk first second new_first new_second =
+    IsTrue disk.is_modelled → BothOnlyRead disk.seen disk.may_leave disk.moment disk.left_since first second new_first new_second
 
--- of a modelled disk: nothing was written to a file that is refused
-abbrev pub IsSpared : {D : Type 0} → Ghosts D → D → D → Type 0
-IsSpared disk old new =
-    IsTrue disk.is_modelled → IsRefused header (λ before. IsText) (disk.seen old)
-    → IsOnlyRead disk.seen disk.may_leave disk.moment disk.left_since old new
+-- of modelled disks: nothing was written to slots that are refused
+abbrev pub IsSpared : {D : Type 0} → Ghosts D → (first second new_first new_second : D) → Type 0
+IsSpared disk first second new_first new_second =
+    IsTrue disk.is_modelled → AreRefused (λ before. IsText) (disk.seen first) (disk.seen second)
+    → BothOnlyRead disk.seen disk.may_leave disk.moment disk.left_since first second new_first new_second
 
--- the journal can't be opened: the file is none, or has a bad record, or there was no memory, and nothing was written; or the device failed, which
--- is counted, and nothing was written to a file that is refused
-abbrev pub IsJournalFault : {D : Type 0} → Ghosts D → D → OpenFault → D → Type 0
-IsJournalFault disk old fault.BadHeader new =
-    (IsTrue disk.is_modelled → IsForeign header (disk.seen old)) × IsUnwritten disk old new
-IsJournalFault disk old (fault.BadRecord n) new =
-    (IsTrue disk.is_modelled → IsBadRecord header (λ before. IsText) n (disk.seen old)) × IsUnwritten disk old new
-IsJournalFault disk old fault.JournalDevice new = (disk.faults new ≡ min (disk.faults old + 1) (2 ^ 64 - 1)) × IsSpared disk old new
-IsJournalFault disk old fault.OutOfMemory new = IsUnwritten disk old new
-IsJournalFault disk old why new = ⊥
+-- the journal can't be opened: the slots have none, or a bad record, or there was no memory, and nothing was written; or a device failed, which
+-- is counted, and nothing was written to slots that are refused
+abbrev pub IsJournalFault : {D : Type 0} → Ghosts D → (first second : D) → OpenFault → (new_first new_second : D) → Type 0
+IsJournalFault disk first second fault.BadHeader new_first new_second =
+    (IsTrue disk.is_modelled → AreForeign (disk.seen first) (disk.seen second)) × IsUnwritten disk first second new_first new_second
+IsJournalFault disk first second (fault.BadRecord n) new_first new_second =
+    (IsTrue disk.is_modelled → ReadsBad (λ before. IsText) n (disk.seen first) (disk.seen second)) × IsUnwritten disk first second new_first new_second
+IsJournalFault disk first second fault.JournalDevice new_first new_second =
+    StopsEither journal_fault.Device (disk.faults first) (disk.faults second) (disk.faults new_first) (disk.faults new_second)
+    × IsSpared disk first second new_first new_second
+IsJournalFault disk first second fault.OutOfMemory new_first new_second = IsUnwritten disk first second new_first new_second
+IsJournalFault disk first second why new_first new_second = ⊥
 
 -- the files that these entries want can't be opened, for that reason
 abbrev pub AreNotOpened : {S : Type 0} → (did : S → Call → S → Type 0) → S → Log → of_files.OpenFault → S → Type 0
@@ -95,12 +98,13 @@ IsHostFault did old limit entries fault.OutOfMemory new = IsFilesFault did old e
 IsHostFault did old limit entries why new = IsFilesFault did old entries why new
 
 -- Why a host can't be opened: the journal can't be, and the shelf isn't asked; or its entries have no host.
-abbrev pub IsOpenFault : {S D : Type 0} → Ghosts D → (did : S → Call → S → Type 0) → (old : D) → (shelf : S) → ℕ → OpenFault → (new : D) → (new_shelf : S) → Type 0
-IsOpenFault {D = D} disk did old shelf limit why new new_shelf =
-    (IsJournalFault disk old why new × (new_shelf ≡ shelf))
-    ⊎ ((journal : Keeps D) × HasJournal disk old journal × (new ≡ journal.disk) × IsHostFault did shelf limit journal.entries why new_shelf)
+abbrev pub IsOpenFault : {S D : Type 0} → Ghosts D → (did : S → Call → S → Type 0) → (first second : D) → (shelf : S) → ℕ → OpenFault → (new_first new_second : D) → (new_shelf : S) → Type 0
+IsOpenFault {D = D} disk did first second shelf limit why new_first new_second new_shelf =
+    (IsJournalFault disk first second why new_first new_second × (new_shelf ≡ shelf))
+    ⊎ ((journal : Keeps D) × HasJournal disk first second journal × (new_first ≡ journal.first) × (new_second ≡ journal.second)
+    × IsHostFault did shelf limit journal.entries why new_shelf)
 
--- a reason other than that the file is no journal, or one of its records none
+-- a reason other than that the slots have no journal, or one of its records is none
 abbrev pub IsNoRecordFault : OpenFault → Type 0
 IsNoRecordFault fault.BadHeader = ⊥
 IsNoRecordFault (fault.BadRecord n) = ⊥

@@ -10,7 +10,7 @@ use std::alloc::AllocError;
 /// Why a host can't be opened.
 #[derive(Clone, Copy, Debug, PartialEq, Eq)]
 pub enum OpenFault {
-    /// The disk has a file that is no journal.
+    /// A slot in use has no header of a journal, or both have one generation.
     BadHeader,
     /// The record of this number in the journal is none.
     BadRecord(u64),
@@ -35,23 +35,24 @@ impl From<AllocError> for OpenFault {
     }
 }
 
-/// A host that couldn't be opened: why, and its disk and its shelf as they are then.
+/// A host that couldn't be opened: why, and the disks of its slots and its shelf as they are then.
 #[derive(Drop)]
 pub struct NotOpened<S, D> {
     pub fault: OpenFault,
-    pub disk: D,
+    pub first: D,
+    pub second: D,
     pub shelf: S,
 }
 
 /// What an opening answers for a fault of the journal.
-pub(crate) fn of_journal(fault: change_journal::OpenFault) -> OpenFault
+pub(crate) fn of_journal(fault: record_file::OpenFault) -> OpenFault
     ensures { result ≡ spec.of_journal fault }
 {
     match fault {
-        change_journal::OpenFault::BadHeader => OpenFault::BadHeader,
-        change_journal::OpenFault::BadRecord(number) => OpenFault::BadRecord(number),
-        change_journal::OpenFault::Device => OpenFault::JournalDevice,
-        change_journal::OpenFault::OutOfMemory => OpenFault::OutOfMemory,
+        record_file::OpenFault::BadHeader => OpenFault::BadHeader,
+        record_file::OpenFault::BadRecord(number) => OpenFault::BadRecord(number),
+        record_file::OpenFault::Device => OpenFault::JournalDevice,
+        record_file::OpenFault::OutOfMemory => OpenFault::OutOfMemory,
     }
 }
 

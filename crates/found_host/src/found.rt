@@ -19,7 +19,7 @@ pub struct Found<D: Disk, S> {
 
 impl<D: Disk, S> Model for Found<D, S> {
     ghost use Rattle.std.specs.Coded.{coded_list};
-    ghost use Rattle.change_undo.specs.contracts.entries.Entry as entry;
+    ghost use Rattle.site_change.specs.contracts.entries.Entry as entry;
     ghost use Rattle.blob_store.specs.contracts.blob_indexes.BlobIndex as known;
     ghost use Rattle.found_host.specs.Remains.{IsFound, Remains, coded_remains};
 

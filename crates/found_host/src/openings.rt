@@ -1,12 +1,10 @@
 //! Openings: a host is found again by a journal's entries and the files on a shelf.
 ghost use Rattle.std.specs.Prelude.{◌≡◌, ◌⊎◌, ◌<◌, ◌≤◌, ℕ, IfErr, IfOk, IsTrue, List, MatchResult, length};
-ghost use Rattle.change_journal.specs.file.Failures.{MayFailReading};
-ghost use Rattle.change_journal.specs.file.Openings.{IsForeign, IsRefused};
-ghost use Rattle.change_journal.specs.entries.Files.{HasRecord, header};
-ghost use Rattle.change_journal.specs.entries.Texts.{HoldsEntries, IsText, MayHoldNext};
-ghost use Rattle.change_undo.specs.Logs as logs;
-ghost use Rattle.change_undo.specs.declared.entries.Entry.{Entry as Line};
-ghost use Rattle.host_disk.specs.Crashes.{LeavesOnly};
+ghost use Rattle.record_file.specs.Failures.{MayFailReading};
+ghost use Rattle.record_file.specs.Pairs.{AreForeign, AreRefused, Order, ReadsRecord};
+ghost use Rattle.change_journal.specs.Texts.{HoldsEntries, IsText, LeavesNext, MayHoldNext};
+ghost use Rattle.change_log.specs.Logs as logs;
+ghost use Rattle.site_change.specs.declared.entries.Entry.{Entry as Line};
 ghost use Rattle.host_opening.specs.Replays.{IsReplayed};
 ghost use Rattle.found_host.specs.Openings as spec;
 ghost use Rattle.found_host.specs.Openings.{HadJournal, HasFiles, IsHostFault, IsNoRecordFault, IsOpened, IsOpenFault};
@@ -17,7 +15,8 @@ use crate::faults::{NotOpened, OpenFault, of_blobs, of_journal, of_replay};
 use crate::found::Found;
 use blob_store::{Blobs, Shelf};
 use change_journal::Journal;
-use change_undo::{History, Log};
+use change_log::Log;
+use change_undo::History;
 use host_disk::Disk;
 use host_opening::{replay, wanted};
 use std::alloc::Global;
@@ -79,57 +78,69 @@ fn find_history<S: Shelf>(
 }
 
 impl<D: Disk, S: Shelf> Found<D, S> {
-    /// Opens the journal of a disk, and then the files on a shelf that its entries want; last, each entry is accepted in turn,
-    /// of as many as the limit says. The first fault ends it, and the disk and the shelf are handed back.
+    /// Opens the journal of two slots, and then the files on a shelf that its entries want; last, each entry is accepted in turn,
+    /// of as many as the limit says. The first fault ends it, and the disks and the shelf are handed back.
     pub fn open(
         alloc: Global,
-        disk: D,
+        first: D,
+        second: D,
         shelf: S,
         limit: u64,
     ) -> Result<Found<D, S>, NotOpened<S, D>>
         requires some { 1 ≤ limit }
         requires bounded { limit ≤ 1000000 }
-        ensures opened { IfOk result (λ found. IsOpened D.Disk S.did disk shelf limit found) }
+        ensures opened { IfOk result (λ found. IsOpened D.Disk S.did first second shelf limit found) }
         ensures fault { IfErr result (λ stop.
-            IsOpenFault D.Disk S.did disk shelf limit stop.fault stop.disk stop.shelf) }
+            IsOpenFault D.Disk S.did first second shelf limit stop.fault stop.first stop.second stop.shelf) }
         ensures kept { IsTrue D.is_modelled → (had : logs.Log) → logs.last_number had ≤ 1000000
-            → HoldsEntries had (D.seen disk)
+            → HoldsEntries had (D.seen first) (D.seen second)
             → MatchResult result (λ found. found.journal.entries ≡ had) (λ stop. IsNoRecordFault stop.fault) }
-        ensures any_moment { IsTrue D.is_modelled → (had : logs.Log) (next : Line)
-            → ((c : List ℕ) → D.may_leave disk c → MayHoldNext had next c)
-            → MatchResult result
-            (λ found. LeavesOnly D.moment D.left_since disk found.journal.disk (MayHoldNext had next))
-            (λ stop. LeavesOnly D.moment D.left_since disk stop.disk (MayHoldNext had next)) }
+        ensures any_moment { IsTrue D.is_modelled → (order : Order) (had : logs.Log) (next : Line)
+            → MayHoldNext order had next (D.may_leave first) (D.may_leave second) → MatchResult result (λ found.
+            LeavesNext D.moment D.left_since order had next first second found.journal.first found.journal.second)
+            (λ stop. LeavesNext D.moment D.left_since order had next first second stop.first stop.second) }
         ensures memory { IsTrue D.is_modelled → IfErr result (λ stop. stop.fault ≡ OutOfMemory
-            → HasRecord (D.seen disk) ⊎ HadJournal D.Disk disk stop.disk) }
-        ensures no_journal { IsTrue D.is_modelled → IsForeign header (D.seen disk)
+            → ReadsRecord (D.seen first) (D.seen second)
+            ⊎ HadJournal D.Disk first second stop.first stop.second) }
+        ensures no_journal { IsTrue D.is_modelled → AreForeign (D.seen first) (D.seen second)
             → MatchResult result (λ _. ⊥) (λ stop.
             (stop.fault ≡ BadHeader) ⊎ (stop.fault ≡ JournalDevice)) }
-        ensures reason { IsTrue D.is_modelled → IsRefused header (λ before. IsText) (D.seen disk)
-            → IfErr result (λ stop. stop.fault ≡ JournalDevice
-            → MayFailReading D.seen D.may_fail (D.seen disk)) }
+        ensures reason { IsTrue D.is_modelled → AreRefused (λ before. IsText) (D.seen first) (D.seen second)
+            → IfErr result (λ stop. stop.fault ≡ JournalDevice → MayFailReading D.seen D.may_fail (D.seen first)
+            ⊎ MayFailReading D.seen D.may_fail (D.seen second)) }
         ensures device { IfErr result (λ stop. stop.fault ≡ BlobsDevice
             → S.failures shelf < S.failures stop.shelf) }
         ensures count { MatchResult result (λ found. S.failures shelf ≤ S.failures found.store.shelf) (λ stop.
             S.failures shelf ≤ S.failures stop.shelf) }
     {
-        let (journal, log) = match Journal::open(alloc, disk) {
+        let (journal, log) = match Journal::open(alloc, first, second) {
             Ok(opened) => opened,
             Err(stop) => {
                 return Err(NotOpened {
                     fault: of_journal(stop.fault),
-                    disk: stop.disk,
+                    first: stop.first,
+                    second: stop.second,
                     shelf,
                 });
             }
         };
         match find_history(alloc, &log, shelf, limit) {
             Ok((history, blobs)) => Ok(Found::of(history, journal, blobs)),
-            Err(stop) => Err(NotOpened {
-                fault: stop.fault,
-                disk: journal.into_disk(),
-                shelf: stop.shelf,
-            }),
+            Err(stop) => Err(without_host(journal, stop)),
         }
+    }
+}
+
+/// Hands the disks and the shelf back of which no host could be made.
+fn without_host<D: Disk, S>(journal: Journal<D>, stop: NoHost<S>) -> NotOpened<S, D>
+    ensures disks { (result.first ≡ journal.first) × (result.second ≡ journal.second) }
+    ensures shelf { (result.fault ≡ stop.fault) × (result.shelf ≡ stop.shelf) }
+{
+    let (first, second) = journal.into_disk();
+    NotOpened {
+        fault: stop.fault,
+        first,
+        second,
+        shelf: stop.shelf,
     }
 }

@@ -11,7 +11,7 @@ use Rattle.site_state.specs.States.{draft_at, kept_at}
 use Rattle.site_state.specs.declared.values.Draft.{Draft}
 use Rattle.site_change.specs.declared.commands.Command.{Command}
 use Rattle.site_change.specs.declared.commands.Command.TheVariants as command
-use Rattle.change_undo.specs.Logs.{entry_at}
+use Rattle.change_log.specs.Logs.{entry_at}
 use Rattle.range_spec.specs.declared.selection.Choice.{Choice}
 use Rattle.range_spec.specs.declared.selection.Choice.TheVariants.{Whole, One, Many, None416}
 use Rattle.range_reply.specs.Holding.{AreNotHeld}

@@ -7,9 +7,10 @@ use Rattle.std.proofs.Math.Seq.{drop-append_seam}
 use Rattle.std.proofs.lemmas.List.{append-nil, take_all, take_at, take-append-drop, length-append, length-reverse, length-take-le, reverse-append, reverse-reverse}
 use Rattle.std.proofs.lemmas.List.Elements.{filter_map-append}
 use Rattle.host_names.specs.declared.names.SiteName.{SiteName}
-use Rattle.change_undo.specs.declared.entries.Entry.{Entry}
-use Rattle.change_undo.specs.Histories.{entry_at, same_site, site_of_entry, undone}
-use Rattle.change_undo.specs.Logs.{Log}
+use Rattle.site_change.specs.declared.entries.Entry.{Entry}
+use Rattle.site_change.specs.Entries.{site_of_entry}
+use Rattle.change_undo.specs.Histories.{entry_at, same_site, undone}
+use Rattle.change_log.specs.Logs.{Log}
 use Rattle.change_undo.specs.SiteEntries.{numbers_of}
 use Rattle.host_api.specs.declared.change_lines.ChangeLine.{ChangeLine}
 use Rattle.host_answers.specs.ChangeLists.{line_of, line_in, line_at, lines_of}

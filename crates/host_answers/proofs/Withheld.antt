@@ -9,7 +9,7 @@ use Rattle.site_state.specs.declared.values.Draft.{Draft}
 use Rattle.site_change.specs.declared.commands.Command.{Command}
 use Rattle.site_change.specs.declared.commands.Command.TheVariants as command
 use Rattle.site_change.specs.declared.refusals.ChangeRefusal.TheVariants.{NoSuchDeploy}
-use Rattle.change_undo.specs.Logs.{entry_at}
+use Rattle.change_log.specs.Logs.{entry_at}
 use Rattle.range_reply.specs.declared.boundaries.Boundary.{Boundary}
 use Rattle.range_spec.specs.declared.selection.Choice.{Choice}
 use Rattle.range_spec.specs.declared.selection.Choice.TheVariants.{Whole, One, Many, None416}

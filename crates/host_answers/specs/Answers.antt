@@ -11,7 +11,7 @@ use Rattle.site_state.specs.declared.values.Draft.{Draft}
 use Rattle.site_change.specs.declared.commands.Command.{Command}
 use Rattle.site_change.specs.declared.commands.Command.TheVariants as command
 use Rattle.site_change.specs.declared.refusals.ChangeRefusal.TheVariants.{NoSuchDeploy}
-use Rattle.change_undo.specs.Logs.{entry_at}
+use Rattle.change_log.specs.Logs.{entry_at}
 use Rattle.http_wire.specs.Requests.{RequestParts}
 use Rattle.host_api.specs.declared.bodies.Ask.{Ask}
 use Rattle.host_api.specs.declared.bodies.Ask.TheVariants as ask

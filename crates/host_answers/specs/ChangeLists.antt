@@ -2,10 +2,11 @@
 use Rattle.std.specs.Prelude.{ℕ, ◌-◌, List, length, drop, not, Option, Some, None, option_and_then, if◌then◌else◌}
 use Rattle.std.specs.List.{filter_map}
 use Rattle.host_names.specs.declared.names.SiteName.{SiteName}
-use Rattle.change_undo.specs.declared.entries.Entry.{Entry}
-use Rattle.change_undo.specs.declared.entries.Entry.TheVariants as entry
-use Rattle.change_undo.specs.Histories.{entry_at, is_among, same_site, site_of_entry, undone}
-use Rattle.change_undo.specs.Logs.{Log, numbered}
+use Rattle.site_change.specs.declared.entries.Entry.{Entry}
+use Rattle.site_change.specs.declared.entries.Entry.TheVariants as entry
+use Rattle.site_change.specs.Entries.{site_of_entry}
+use Rattle.change_undo.specs.Histories.{entry_at, is_among, same_site, undone}
+use Rattle.change_log.specs.Logs.{Log, numbered}
 use Rattle.host_api.specs.ChangeLines.{word_of}
 use Rattle.host_api.specs.declared.change_lines.ChangeLine.{ChangeLine}
 use Rattle.host_api.specs.declared.change_lines.ChangeLine.TheVariants as line

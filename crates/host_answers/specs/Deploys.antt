@@ -6,8 +6,8 @@ use Rattle.site_state.specs.Files.{Paths}
 use Rattle.site_state.specs.Listings.{Listed}
 use Rattle.site_change.specs.declared.commands.Command.{Command}
 use Rattle.site_change.specs.declared.commands.Command.TheVariants.{Open}
-use Rattle.change_undo.specs.declared.entries.Entry.{Entry}
-use Rattle.change_undo.specs.declared.entries.Entry.TheVariants.{Change}
+use Rattle.site_change.specs.declared.entries.Entry.{Entry}
+use Rattle.site_change.specs.declared.entries.Entry.TheVariants.{Change}
 
 -- the opening of a deploy: its site, what it lists, and whether it is to publish itself
 pub record Opening : Type 0 where

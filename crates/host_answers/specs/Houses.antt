@@ -8,7 +8,7 @@ use Rattle.chunk_reads.specs.declared.faults.ReadFault.{ReadFault}
 use Rattle.site_state.specs.Files.{Paths}
 use Rattle.site_state.specs.States.{State}
 use Rattle.site_change.specs.declared.commands.Command.{Command}
-use Rattle.change_undo.specs.Logs.{Log}
+use Rattle.change_log.specs.Logs.{Log}
 use Rattle.host_api.specs.declared.refusals.Refusal.{Refusal}
 use Rattle.host_answers.specs.declared.stops.Stop.{Stop}
 use Rattle.host_answers.specs.declared.uploads.Uploaded.{Uploaded}

@@ -6,10 +6,10 @@ ghost use Rattle.host_replies.specs.Replies.{Tells};
 ghost use Rattle.host_answers.specs.ChangeLists as spec;
 
 use crate::houses::House;
-use change_undo::Entry;
 use host_api::{ChangeLine, Items, Told, word_of};
 use host_names::SiteName;
 use host_replies::Reply;
+use site_change::Entry;
 use std::alloc::{AllocError, Global};
 
 /// How many entries of a site are shown.

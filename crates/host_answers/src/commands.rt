@@ -2,8 +2,8 @@
 ghost use Rattle.std.specs.Prelude.{◌≡◌, Bool, None, Some, Ok};
 ghost use Rattle.site_state.specs.Listings.{Listed};
 ghost use Rattle.host_answers.specs.Deploys.{IsOpening, opened_by};
-ghost use Rattle.change_undo.specs.Logs.{entry_at};
-ghost use Rattle.change_undo.specs.declared.entries.Entry.TheVariants as entry;
+ghost use Rattle.change_log.specs.Logs.{entry_at};
+ghost use Rattle.site_change.specs.declared.entries.Entry.TheVariants as entry;
 ghost use Rattle.site_change.specs.declared.commands.Command.{Command as Change};
 ghost use Rattle.site_change.specs.declared.commands.Command.TheVariants as command;
 ghost use Rattle.host_names.specs.declared.names.SiteName.{SiteName as Site};
@@ -16,11 +16,10 @@ use crate::deploys::site_of_deploy;
 use crate::houses::House;
 use crate::stops::Stop;
 use crate::telling::{no_such_deploy, refuse, tell_entry};
-use change_undo::Entry;
 use host_api::{Items, Told};
 use host_names::{Digest, SiteName};
 use host_replies::Reply;
-use site_change::Command;
+use site_change::{Command, Entry};
 use site_state::Listing;
 use std::alloc::{AllocError, Global};
 

@@ -1,6 +1,6 @@
 //! Deploys: the site that each belongs to, and what is told of them.
 ghost use Rattle.std.specs.Prelude.{◌≡◌};
-ghost use Rattle.change_undo.specs.Logs.{entry_at};
+ghost use Rattle.change_log.specs.Logs.{entry_at};
 ghost use Rattle.site_state.specs.States.{draft_at, kept_at};
 ghost use Rattle.host_replies.specs.Bodies.{answer_of};
 ghost use Rattle.host_replies.specs.Replies.{Tells};
@@ -10,11 +10,11 @@ ghost use Rattle.host_answers.specs.Deploys as spec;
 
 use crate::houses::House;
 use crate::telling::no_such_deploy;
-use change_undo::{Entry, Log};
+use change_log::Log;
 use host_api::{DeployState, Items, Told};
 use host_names::{Digest, SiteName};
 use host_replies::Reply;
-use site_change::Command;
+use site_change::{Command, Entry};
 use std::alloc::{AllocError, Global};
 
 /// The site of the deploy with this number: that of the entry that opened it.

@@ -3,7 +3,7 @@ ghost use Rattle.std.specs.Prelude.{◌≡◌, ◌⊎◌, ℕ, List, Some, Ok, E
 ghost use Rattle.http_wire.specs.Requests.{RequestParts};
 ghost use Rattle.change_undo.specs.Histories.{entry_at, marked_entry};
 ghost use Rattle.change_undo.specs.SiteEntries.{numbers_of};
-ghost use Rattle.change_undo.specs.declared.entries.Entry.TheVariants as entry;
+ghost use Rattle.site_change.specs.declared.entries.Entry.TheVariants as entry;
 ghost use Rattle.host_replies.specs.Replies.{Answer, is_head};
 ghost use Rattle.host_api.specs.declared.refusals.Refusal.TheVariants as reason;
 ghost use Rattle.host_answers.specs.Answers.{AnswersBy};
@@ -12,12 +12,13 @@ ghost use Rattle.host_answers.specs.Houses.{Calls};
 
 use crate::stops::Stop;
 use crate::uploads::Uploaded;
-use change_undo::{Entry, Log, SiteEntries};
+use change_log::Log;
+use change_undo::SiteEntries;
 use chunk_reads::Holder;
 use host_api::{Ask, Items, Refusal};
 use host_names::{Digest, FilePath, SiteName};
 use http_wire::Head;
-use site_change::Command;
+use site_change::{Command, Entry};
 use site_state::{Listing, State};
 use std::alloc::{AllocError, Global};
 

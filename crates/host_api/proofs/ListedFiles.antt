@@ -17,7 +17,7 @@ use Rattle.host_names.specs.Hex.{IsDigestText}
 use Rattle.host_names.specs.Path.{is_path}
 use Rattle.host_names.specs.declared.digests.Digest.{Digest}
 use Rattle.site_state.specs.Files.{IsByPath}
-use Rattle.persistent_collections.proofs.Entries.{is_sorted-from}
+use Rattle.persistent_maps.proofs.Entries.{is_sorted-from}
 use Rattle.host_api.specs.Bodies.{digest_in, listed_in, files_in, with_one}
 use Rattle.host_api.specs.declared.refusals.Refusal.{Refusal}
 use Rattle.host_api.specs.declared.refusals.Refusal.TheVariants.{BadBody, BadDigest}

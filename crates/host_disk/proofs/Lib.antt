@@ -1,3 +1,4 @@
 mod AllImages
+mod Counted
 mod CutShort
 pub mod Runs

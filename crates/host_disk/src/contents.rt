@@ -1,7 +1,7 @@
 //! The bytes of a disk in memory, with what a crash may leave of them.
-ghost use Rattle.std.specs.Prelude.{◌≡◌, ◌↔◌, ◌+◌, ◌++◌, ◌≤◌, IfOk, IsErr, IsOk, OnErr, OnOk, drop, length, take, vec_capacity};
+ghost use Rattle.std.specs.Prelude.{◌≡◌, ◌↔◌, ◌⊎◌, ◌+◌, ◌++◌, ◌<◌, ◌≤◌, ℕ, IfOk, IsErr, IsOk, OnErr, OnOk, drop, length, slice_index, take, vec_capacity};
 ghost use Rattle.host_disk.specs.Crashes.{IsRead};
-ghost use Rattle.host_disk.specs.Contents.{FindsNoRoom, IsBetween, after_cut, after_sync, after_write, empty_file};
+ghost use Rattle.host_disk.specs.Contents.{FindsNoRoom, IsBetween, IsInside, IsLongest, IsOutside, after_cut, after_sync, after_write, empty_file};
 
 use crate::faults::DeviceFault;
 use arrayvec::ArrayVec;
@@ -36,7 +36,7 @@ impl Model for Content {
 
     ghost view = { λ f. record { bytes = f.bytes.items; least = f.least; greatest = f.greatest; written = f.written.items; room = f.room } };
 
-    ghost invariant = { λ f. (f.least ≤ length f.bytes.items) × (length f.bytes.items ≤ f.greatest) × (length f.bytes.items ≤ f.room) × (f.room ≤ vec_capacity f.bytes) };
+    ghost invariant = { λ f. (f.least ≤ length f.bytes.items) × (length f.bytes.items ≤ f.greatest) × (f.greatest ≤ f.room) × (f.room ≤ vec_capacity f.bytes) };
 }
 
 impl Content {
@@ -109,6 +109,25 @@ impl Content {
         self.greatest = self.bytes.len();
         self.written.clear();
     }
+
+    /// The longest file that a crash may leave, with this byte wherever a crash may leave any. It is synced, and has the same room.
+    pub(crate) fn image(&self, alloc: Global, byte: u8) -> Result<Content, AllocError>
+        ensures longest { IfOk result (λ file. IsLongest self.now byte file.bytes) }
+        ensures synced { IfOk result (λ file. file ≡ after_sync file) }
+        ensures room { IfOk result (λ file. file.room ≡ self.now.room) }
+    {
+        let mut bytes = Vec::with_capacity(alloc, self.room)?;
+        bytes.extend_from_slice(&self.bytes[..self.least])?;
+        bytes.resize(self.greatest, byte)?;
+        overwrite(&mut bytes, &self.written, byte);
+        Ok(Content {
+            bytes,
+            least: self.greatest,
+            greatest: self.greatest,
+            written: ArrayVec::new(),
+            room: self.room,
+        })
+    }
 }
 
 /// Puts bytes at a place, over what is there and past its end. It takes no memory, since it has room.
@@ -123,4 +142,28 @@ fn put(file: &mut Vec<u8>, at: usize, bytes: &[u8]) -> Result<(), DeviceFault>
     let (front, back) = bytes.split_at(over);
     file[at..at + over].copy_from_slice(front);
     file.extend_from_slice(back).map_err(|_| DeviceFault)
+}
+
+/// Puts a byte at each place of a stretch that a file has.
+fn overwrite_stretch(file: &mut [u8], stretch: Stretch, byte: u8)
+    ensures outside { (i : ℕ) → (i < stretch.at) ⊎ (stretch.at + stretch.len ≤ i)
+        → slice_index file.new i ≡ slice_index file.old i }
+    ensures inside { (i : ℕ) → i < length file.old → stretch.at ≤ i → i < stretch.at + stretch.len
+        → slice_index file.new i ≡ byte }
+{
+    let end = stretch.at.saturating_add(stretch.len).min(file.len());
+    let at = stretch.at.min(end);
+    file[at..end].fill(byte);
+}
+
+/// Puts a byte at each place of some stretches that a file has.
+fn overwrite(file: &mut [u8], stretches: &[Stretch], byte: u8)
+    ensures outside { (i : ℕ) → IsOutside stretches.now i → slice_index file.new i ≡ slice_index file.old i }
+    ensures inside { (i : ℕ) → i < length file.old → IsInside stretches.now i → slice_index file.new i ≡ byte }
+    ensures either { (i : ℕ) → i < length file.old
+        → (slice_index file.new i ≡ byte) ⊎ (slice_index file.new i ≡ slice_index file.old i) }
+{
+    for stretch in stretches {
+        overwrite_stretch(file, *stretch, byte);
+    }
 }

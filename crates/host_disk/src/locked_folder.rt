@@ -17,6 +17,13 @@ impl LockedFolder {
         Ok(LockedFolder { folder })
     }
 
+    /// The same folder once more: it is locked until both values are gone.
+    pub(crate) fn shared(&self) -> io::Result<LockedFolder> {
+        Ok(LockedFolder {
+            folder: self.folder.try_clone()?,
+        })
+    }
+
     /// Syncs it, so that the names in it last.
     pub(crate) fn sync(&self) -> io::Result<()> {
         self.folder.sync_all()

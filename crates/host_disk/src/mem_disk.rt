@@ -1,7 +1,7 @@
 //! A disk in memory, which may crash as any disk may.
 ghost use Rattle.std.specs.Prelude.{◌≡◌, [], IfOk, true};
 ghost use Rattle.std.proofs.Common.{inl};
-ghost use Rattle.host_disk.specs.Contents.{IsBetween, IsImage, MayFail, empty_file};
+ghost use Rattle.host_disk.specs.Contents.{IsBetween, IsImage, IsLongest, MayFail, empty_file};
 ghost use Rattle.host_disk.specs.Crashes.{Only};
 ghost use Rattle.host_disk.specs.Pasts.{IsAfter, LeftSince, age, only_now, stays};
 
@@ -33,6 +33,22 @@ impl MemDisk {
     {
         Ok(MemDisk {
             content: Content::new(alloc, room)?,
+            past: Past::Start,
+            failures: 0,
+        })
+    }
+
+    /// The disk that a crash now may leave: as long as it may be, and with this byte wherever a crash may leave any. It is synced, has the
+    /// same room, and no failure.
+    pub fn image(&self, alloc: Global, byte: u8) -> Result<MemDisk, AllocError>
+        ensures image { IfOk result (λ disk. ⟦<MemDisk as Disk>⟧.may_leave self.now (⟦<MemDisk as Disk>⟧.seen disk)) }
+        ensures longest { IfOk result (λ disk. IsLongest self.now.content byte (⟦<MemDisk as Disk>⟧.seen disk)) }
+        ensures durable { IfOk result (λ disk. Only (⟦<MemDisk as Disk>⟧.seen disk) (⟦<MemDisk as Disk>⟧.may_leave disk)) }
+        ensures failures { IfOk result (λ disk. ⟦<MemDisk as Disk>⟧.faults disk ≡ 0) }
+        ensures room { IfOk result (λ disk. disk.content.room ≡ self.now.content.room) }
+    {
+        Ok(MemDisk {
+            content: self.content.image(alloc, byte)?,
             past: Past::Start,
             failures: 0,
         })

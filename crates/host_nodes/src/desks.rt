@@ -8,15 +8,15 @@ use crate::posts::{Places, Posts};
 use crate::runtimes::Serving;
 use crate::task_lists::Task;
 use crate::tasks::{HostShared, Means, work_on};
-use blob_store::{Shelf, ShelfAccess};
+use blob_store::{AbsenceReceipt, PutReceipt, Shelf, ShelfAccess};
 use byte_view::BlobInfo;
-use change_undo::Entry;
 use host_disk::Disk;
 use http_wire::Sink;
 use left_right::Absorb;
 use node_process::{Process, Start, Surroundings};
 use seen_lists::ListName;
 use shared_desk::Desk;
+use site_change::Entry;
 use site_desk::{DeskName, Notice};
 use std::alloc::Global;
 use std::sync::Mutex;
@@ -30,13 +30,15 @@ fn serve_nodes<
     S: Shelf + Send,
     T: Absorb<Notice<J>, State = [Entry; 0]> + Drop + Send + Sync,
     R: Serving,
-    Q: ShelfAccess<S> + Send + Sync,
+    Q: ShelfAccess<S, U, N> + Send + Sync,
+    U: PutReceipt + Drop + Send + Sync,
+    N: AbsenceReceipt + Drop + Send + Sync,
     P: Process,
     O: Sink,
     E: Sink,
 >(
     alloc: Global,
-    shared: &HostShared<'a, '_, '_, J, K, D, S, T, R, Q>,
+    shared: &HostShared<'a, '_, '_, J, K, D, S, T, R, Q, U, N>,
     ports: &'a [Ports],
     tasks: Vec<Task<J>>,
     around: &Surroundings<'a, R, P, Q, E>,
@@ -44,14 +46,7 @@ fn serve_nodes<
 ) -> Result<(), Failure> {
     let (start, parsing) = (Start::new(tasks.len() as u64), Mutex::new(()));
     let means = Means::new(around.access, &parsing, around.stop);
-    let overseen = Overseen {
-        groups: shared.groups,
-        nodes: shared.nodes,
-        peers: shared.peers,
-        ports,
-        stop: around.stop,
-        notices: around.notices,
-    };
+    let overseen = Overseen::new(shared, ports, around);
     let (done, overseen) = share_out(
         shared,
         tasks,
@@ -83,7 +78,9 @@ fn serve_places<
     S: Shelf + Send,
     T: Absorb<Notice<J>, State = [Entry; 0]> + Drop + Send + Sync,
     R: Serving,
-    Q: ShelfAccess<S> + Send + Sync,
+    Q: ShelfAccess<S, U, N> + Send + Sync,
+    U: PutReceipt + Drop + Send + Sync,
+    N: AbsenceReceipt + Drop + Send + Sync,
     P: Process,
     O: Sink,
     E: Sink,
@@ -91,7 +88,7 @@ fn serve_places<
     rt: &'a R,
     alloc: Global,
     desk: &'a Desk<J, K, D, S, T, R>,
-    groups: &'a [HostGroup<'_, '_, R, S, Q>],
+    groups: &'a [HostGroup<'_, '_, R, S, Q, U, N>],
     places: &'a Places<J>,
     tasks: Vec<Task<J>>,
     around: &Surroundings<'a, R, P, Q, E>,
@@ -118,7 +115,9 @@ fn serve_group<
     S: Shelf + Send,
     T: Absorb<Notice<J>, State = [Entry; 0]> + Drop + Send + Sync,
     R: Serving,
-    Q: ShelfAccess<S> + Send + Sync,
+    Q: ShelfAccess<S, U, N> + Send + Sync,
+    U: PutReceipt + Drop + Send + Sync,
+    N: AbsenceReceipt + Drop + Send + Sync,
     P: Process,
     O: Sink,
     E: Sink,
@@ -152,7 +151,9 @@ pub(crate) fn serve_desk<
     S: Shelf + Send,
     T: Absorb<Notice<J>, State = [Entry; 0]> + Drop + Send + Sync,
     R: Serving,
-    Q: ShelfAccess<S> + Send + Sync,
+    Q: ShelfAccess<S, U, N> + Send + Sync,
+    U: PutReceipt + Drop + Send + Sync,
+    N: AbsenceReceipt + Drop + Send + Sync,
     P: Process,
     O: Sink,
     E: Sink,

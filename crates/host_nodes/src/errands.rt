@@ -2,17 +2,18 @@
 use crate::groups::HostGroup;
 use crate::guests::{GuestSteps, Noted};
 use crate::nodes::step_away;
-use blob_store::ShelfAccess;
+use blob_store::{AbsenceReceipt, PutReceipt, ShelfAccess};
 use byte_view::BlobInfo;
-use change_undo::Entry;
 use connection_rules::Stage;
+use desk_seats::SeatedDesk;
 use event_loop::{Holding, Next, SlowSteps, Step};
 use host_disk::Disk;
 use left_right::Absorb;
 use peer_link::TcpLink;
 use seen_lists::ListName;
 use shared_desk::Desk;
-use shared_house::{DeskVisitor, GroupFiles, Guest, SeatedDesk, SharedHouse};
+use shared_house::{DeskVisitor, GroupFiles, Guest, SharedHouse};
+use site_change::Entry;
 use site_desk::{DeskName, Notice, Seat};
 use std::alloc::Global;
 use std::net::{Net, TcpStream};
@@ -21,10 +22,10 @@ use std::thread::Threads;
 use std::time::Clock;
 
 /// The steps of one request.
-type AwaySteps<'a, 'g, 'h, J, K, D, S, T, R, Q, P> = GuestSteps<
+type AwaySteps<'a, 'g, 'h, J, K, D, S, T, R, Q, U, N> = GuestSteps<
     J,
-    SeatedDesk<'a, J, K, D, S, T, R, R, Q>,
-    GroupFiles<'a, R, HostGroup<'g, 'h, R, S, P>, TcpLink<'h, R>>,
+    SeatedDesk<'a, J, K, D, S, T, R, R, Q, U, N>,
+    GroupFiles<'a, R, HostGroup<'g, 'h, R, S, Q, U, N>, TcpLink<'h, R>>,
 >;
 
 /// Answers the requests that workers leave: over what the worker saw, and with calls that may wait.
@@ -60,12 +61,13 @@ fn steps_of<
     S,
     T: Absorb<Notice<J>, State = [Entry; 0]> + Drop,
     R: Net<Stream = TcpStream> + Clock + Wait + Threads + Drop,
-    Q: ShelfAccess<S>,
-    P: ShelfAccess<S>,
+    Q: ShelfAccess<S, U, N>,
+    U: PutReceipt + Drop,
+    N: AbsenceReceipt + Drop,
 >(
-    errands: &GuestErrands<'a, J, K, D, S, T, R, Q, HostGroup<'g, 'h, R, S, P>>,
+    errands: &GuestErrands<'a, J, K, D, S, T, R, Q, HostGroup<'g, 'h, R, S, Q, U, N>>,
     sight: DeskVisitor<J>,
-) -> Option<AwaySteps<'a, 'g, 'h, J, K, D, S, T, R, Q, P>> {
+) -> Option<AwaySteps<'a, 'g, 'h, J, K, D, S, T, R, Q, U, N>> {
     let rt = errands.rt;
     let desk = SeatedDesk::new(
         rt,
@@ -88,9 +90,10 @@ impl<
     S,
     T: Absorb<Notice<J>, State = [Entry; 0]> + Drop,
     R: Net<Stream = TcpStream> + Clock + Wait + Threads + Drop,
-    Q: ShelfAccess<S>,
-    P: ShelfAccess<S>,
-> SlowSteps for GuestErrands<'_, J, K, D, S, T, R, Q, HostGroup<'_, '_, R, S, P>> {
+    Q: ShelfAccess<S, U, N>,
+    U: PutReceipt + Drop,
+    N: AbsenceReceipt + Drop,
+> SlowSteps for GuestErrands<'_, J, K, D, S, T, R, Q, HostGroup<'_, '_, R, S, Q, U, N>> {
     type Connection = Noted<J>;
 
     fn go_on(&mut self, alloc: Global, noted: &mut Noted<J>) -> Step {

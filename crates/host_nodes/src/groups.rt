@@ -2,7 +2,7 @@
 ghost use Rattle.std.specs.Prelude.{◌≡◌, ◌<◌, IfOk, length, vec_len};
 
 use crate::ports::Ports;
-use blob_store::{Files, ShelfAccess};
+use blob_store::{AbsenceReceipt, Files, PutReceipt, ShelfAccess};
 use chunk_group::{Counter, Group, SharedSource};
 use operator_notices::Notices;
 use peer_link::{Peer, TcpLink};
@@ -16,9 +16,9 @@ use std::time::Clock;
 const CACHE_LIMIT: usize = 67_108_864;
 
 /// A node of the group, which reads the shelf that all nodes share.
-pub(crate) type HostGroup<'a, 'b, R, S, Q> = Group<
+pub(crate) type HostGroup<'a, 'b, R, S, Q, U, N> = Group<
     DigestHash,
-    SharedSource<'a, R, S, Q>,
+    SharedSource<'a, R, S, Q, U, N>,
     TcpLink<'b, R>,
     Counter,
 >;
@@ -81,14 +81,21 @@ fn ring_of(alloc: Global, peers: &[Peer]) -> Result<Ring<DigestHash>, RingFault>
 }
 
 /// The node that knows all nodes so, with empty caches. There is none only for want of memory.
-fn group_at<'a, R: Net<Stream = TcpStream> + Clock + Wait, S, Q: ShelfAccess<S>>(
+fn group_at<
+    'a,
+    R: Net<Stream = TcpStream> + Clock + Wait,
+    S,
+    Q: ShelfAccess<S, U, N>,
+    U: PutReceipt + Drop,
+    N: AbsenceReceipt + Drop,
+>(
     rt: &'a R,
     alloc: Global,
     files: &'a Mutex<Files<S>>,
     access: &'a Q,
     view: &'a View,
     notices: &'a Notices,
-) -> Result<HostGroup<'a, 'a, R, S, Q>, AllocError> {
+) -> Result<HostGroup<'a, 'a, R, S, Q, U, N>, AllocError> {
     let peers = view.peers.as_slice();
     let Ok(ring) = ring_of(alloc, peers) else {
         return Err(AllocError);
@@ -107,14 +114,21 @@ fn group_at<'a, R: Net<Stream = TcpStream> + Clock + Wait, S, Q: ShelfAccess<S>>
 }
 
 /// A node for each of these views, which reach the shelf this way.
-pub(crate) fn groups_of<'a, R: Net<Stream = TcpStream> + Clock + Wait, S, Q: ShelfAccess<S>>(
+pub(crate) fn groups_of<
+    'a,
+    R: Net<Stream = TcpStream> + Clock + Wait,
+    S,
+    Q: ShelfAccess<S, U, N>,
+    U: PutReceipt + Drop,
+    N: AbsenceReceipt + Drop,
+>(
     rt: &'a R,
     alloc: Global,
     files: &'a Mutex<Files<S>>,
     access: &'a Q,
     views: &'a [View],
     notices: &'a Notices,
-) -> Result<Vec<HostGroup<'a, 'a, R, S, Q>>, AllocError> {
+) -> Result<Vec<HostGroup<'a, 'a, R, S, Q, U, N>>, AllocError> {
     let mut groups = Vec::new(alloc);
     for view in views {
         groups.push(group_at(rt, alloc, files, access, view, notices)?)?;

@@ -9,9 +9,8 @@ use crate::lines::Failure;
 use crate::ports::bind_all;
 use crate::posts::{Plan, Posts, Staff, posts_of};
 use crate::runtimes::Serving;
-use blob_store::{Shelf, ShelfAccess};
+use blob_store::{AbsenceReceipt, PutReceipt, Shelf, ShelfAccess};
 use byte_view::BlobInfo;
-use change_undo::Entry;
 use command_line::ServeOptions;
 use connection_rules::Limits;
 use found_host::{Found, OpenFault};
@@ -22,6 +21,7 @@ use node_process::{Process, Surroundings, places_of};
 use operator_notices::Notices;
 use seen_lists::{ListName, Shown};
 use shared_desk::{Desk, NewDesk, Opened, open};
+use site_change::Entry;
 use site_desk::{DeskName, HostSnap, Notice};
 use std::alloc::{AllocError, Global};
 use std::net::{Net, TcpListener, TcpStream};
@@ -135,7 +135,9 @@ fn serve_staffed<
     S: Shelf + Send,
     T: Absorb<Notice<J>, State = [Entry; 0]> + Drop + Send + Sync,
     R: Serving,
-    Q: ShelfAccess<S> + Send + Sync,
+    Q: ShelfAccess<S, U, N> + Send + Sync,
+    U: PutReceipt + Drop + Send + Sync,
+    N: AbsenceReceipt + Drop + Send + Sync,
     P: Process,
     O: Sink,
     E: Sink,
@@ -163,7 +165,9 @@ fn serve_open<
     D: Disk + Drop + Send,
     S: Shelf + Drop + Send,
     R: Serving,
-    Q: ShelfAccess<S> + Send + Sync,
+    Q: ShelfAccess<S, U, N> + Send + Sync,
+    U: PutReceipt + Drop + Send + Sync,
+    N: AbsenceReceipt + Drop + Send + Sync,
     P: Process,
     O: Sink,
     E: Sink,
@@ -189,7 +193,9 @@ pub(crate) fn serve_found<
     D: Disk + Drop + Send,
     S: Shelf + Drop + Send,
     R: Serving,
-    Q: ShelfAccess<S> + Send + Sync,
+    Q: ShelfAccess<S, U, N> + Send + Sync,
+    U: PutReceipt + Drop + Send + Sync,
+    N: AbsenceReceipt + Drop + Send + Sync,
     P: Process,
     O: Sink,
     E: Sink,

@@ -1,5 +1,6 @@
 //! What the main thread does while the others serve.
 use crate::lines::{Failure, say};
+use crate::nodes::Shared;
 use crate::ports::Ports;
 use crate::tasks::end_all;
 use chunk_group::Tidy;
@@ -7,7 +8,7 @@ use connection_rules::Least;
 use event_loop::Node;
 use found_host::OpenFault;
 use http_wire::Sink;
-use node_process::{Process, Start, Stop, Teller};
+use node_process::{Process, Start, Stop, Surroundings, Teller};
 use operator_notices::Notices;
 use std::alloc::Global;
 use std::sync::{Arc, Mutex, Wait};
@@ -28,6 +29,24 @@ pub(crate) struct Overseen<'a, G, N: Drop, M: Drop> {
     pub(crate) ports: &'a [Ports],
     pub(crate) stop: &'a Stop,
     pub(crate) notices: &'a Arc<Notices>,
+}
+
+impl<'a, G, N: Drop, M: Drop> Overseen<'a, G, N, M> {
+    /// The nodes that these threads work for, at these ports.
+    pub(crate) fn new<R, A, B, P, Q, T>(
+        shared: &Shared<'a, R, A, B, G, Node<N>, Node<M>>,
+        ports: &'a [Ports],
+        around: &Surroundings<'a, R, P, Q, T>,
+    ) -> Overseen<'a, G, N, M> {
+        Overseen {
+            groups: shared.groups,
+            nodes: shared.nodes,
+            peers: shared.peers,
+            ports,
+            stop: around.stop,
+            notices: around.notices,
+        }
+    }
 }
 
 impl<G: Tidy, N: Drop, M: Drop> Overseen<'_, G, N, M> {

@@ -13,13 +13,13 @@ ghost use Rattle.host_nodes.specs.Ports.{HasPorts, LeavesRoom};
 use crate::lines::{Failure, refuse};
 use crate::open_desks::{numbers, serve_found};
 use crate::runtimes::Serving;
-use blob_store::{MemShelf, Shelf, ShelfAccess};
+use blob_store::{AbsenceReceipt, MemShelf, PutReceipt, Shelf, ShelfAccess};
 use change_undo::GREATEST_LIMIT;
 use command_line::ServeOptions;
 use connection_rules::Limits;
 use found_host::{Found, OpenFault};
 use host_disk::{Disk, MemDisk};
-use host_server::fail;
+use host_server::{Store, fail};
 use http_wire::Sink;
 use node_process::{Process, Surroundings};
 use shared_desk::NewDesk;
@@ -37,8 +37,8 @@ const DONE: u8 = 0;
 /// The exit status if the port leaves no room for those of all nodes.
 const BAD_ADDRESS: u8 = 1;
 
-/// How many bytes a journal in memory has: 64 MiB.
-const JOURNAL_ROOM: usize = 67_108_864;
+/// How many bytes each slot of a journal in memory has: 64 MiB.
+const SLOT_ROOM: usize = 67_108_864;
 
 /// The last port that leaves room for the ports of eight nodes.
 const LAST_PORT: u16 = 65_520;
@@ -66,12 +66,14 @@ fn second<R: Env>(rt: &R) -> u64 {
     }
 }
 
-/// Serves from what a disk and a shelf have.
+/// Serves from what a store has.
 fn serve_store<
     D: Disk + Drop + Send,
     S: Shelf + Drop + Send,
     R: Serving,
-    Q: ShelfAccess<S> + Send + Sync,
+    Q: ShelfAccess<S, U, N> + Send + Sync,
+    U: PutReceipt + Drop + Send + Sync,
+    N: AbsenceReceipt + Drop + Send + Sync,
     P: Process,
     O: Sink,
     E: Sink,
@@ -80,33 +82,42 @@ fn serve_store<
     alloc: Global,
     options: &ServeOptions,
     limits: Limits,
-    disk: D,
-    shelf: S,
+    store: Store<D, S>,
     around: &Surroundings<'_, R, P, Q, E>,
     lines: &mut O,
 ) -> Result<(), Failure>
     requires ports { LeavesRoom options.now.listen }
 {
     let own = rt.clone()?;
-    let found = match Found::open(alloc, disk, shelf, GREATEST_LIMIT) {
+    let Store {
+        first,
+        second,
+        shelf,
+    } = store;
+    let found = match Found::open(alloc, first, second, shelf, GREATEST_LIMIT) {
         Ok(found) => found,
         Err(_) if around.halt.is_asked() => return Ok(()),
         Err(stop) => return Err(Failure::NotOpened(stop.fault)),
     };
     around.halt.end();
     let new = NewDesk::new(rt, numbers(options).0);
-    serve_found::<Brand, Brand, D, S, R, Q, P, O, E>(
+    serve_found::<Brand, Brand, D, S, R, Q, U, N, P, O, E>(
         rt, own, alloc, options, limits, new, found, around, lines,
     )
 }
 
-/// The disk and the shelf of a host in memory, which is empty.
-pub fn open_memory(alloc: Global) -> Result<(MemDisk, MemShelf), OpenFault>
-    ensures disk { IfOk result (λ opened. opened.0.content ≡ empty_file 67108864) }
-    ensures shelf { IfOk result (λ opened. (name : ShelfName) → found_in opened.1 name ≡ None) }
+/// What a host in memory is kept on, which is empty.
+pub fn open_memory(alloc: Global) -> Result<Store<MemDisk, MemShelf>, OpenFault>
+    ensures first { IfOk result (λ store. store.first.content ≡ empty_file 67108864) }
+    ensures second { IfOk result (λ store. store.second.content ≡ empty_file 67108864) }
+    ensures shelf { IfOk result (λ store. (name : ShelfName) → found_in store.shelf name ≡ None) }
     ensures fault { IfErr result (λ fault. fault ≡ OutOfMemory) }
 {
-    Ok((MemDisk::new(alloc, JOURNAL_ROOM)?, MemShelf::new(alloc)))
+    Ok(Store {
+        first: MemDisk::new(alloc, SLOT_ROOM)?,
+        second: MemDisk::new(alloc, SLOT_ROOM)?,
+        shelf: MemShelf::new(alloc),
+    })
 }
 
 /// Whether the first node has a port, and all eight nodes, after it, have both of theirs.
@@ -131,7 +142,7 @@ pub fn refuse_memory<E: Sink>(errors: &mut E) -> u8
     refuse(errors, &Failure::NotOpened(OpenFault::OutOfMemory))
 }
 
-/// Serves clients and other nodes from the disk and the shelf that were opened, as the words ask for it, and answers the exit status. It tells on
+/// Serves clients and other nodes from the store that was opened, as the words ask for it, and answers the exit status. It tells on
 /// `lines` where each node listens; if the status isn't 0, `errors` is told why. What happens meanwhile, and what the
 /// nodes reach, is around it.
 ///
@@ -149,7 +160,9 @@ pub fn run_serve<
         + Sync
         + Drop
         + Env,
-    Q: ShelfAccess<S> + Send + Sync,
+    Q: ShelfAccess<S, U, N> + Send + Sync,
+    U: PutReceipt + Drop + Send + Sync,
+    N: AbsenceReceipt + Drop + Send + Sync,
     P: Process,
     O: Sink,
     E: Sink,
@@ -158,7 +171,7 @@ pub fn run_serve<
     rt: &R,
     alloc: Global,
     options: &ServeOptions,
-    opened: Result<(D, S), OpenFault>,
+    opened: Result<Store<D, S>, OpenFault>,
     around: &Surroundings<'_, R, P, Q, T>,
     lines: &mut O,
     errors: &mut E,
@@ -168,12 +181,12 @@ pub fn run_serve<
     ensures unopened { IfErr opened
         (λ why. SaysFault E.may_fail why result (E.held errors.old) (E.held errors.new) × (lines.new ≡ lines.old)) }
 {
-    let (disk, shelf) = match opened {
-        Ok(found) => found,
+    let store = match opened {
+        Ok(store) => store,
         Err(fault) => return refuse(errors, &Failure::NotOpened(fault)),
     };
     let limits = Limits::with_second(second(rt));
-    match serve_store(rt, alloc, options, limits, disk, shelf, around, lines) {
+    match serve_store(rt, alloc, options, limits, store, around, lines) {
         Ok(()) => DONE,
         Err(failure) => refuse(errors, &failure),
     }

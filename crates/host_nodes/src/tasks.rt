@@ -5,9 +5,9 @@ use crate::guests::{GuestSteps, Noted};
 use crate::nodes::{Job, Place, Shared, do_errands, place_at, serve_clients};
 use crate::peer_ports::PeerSteps;
 use crate::task_lists::Task;
-use blob_store::{Shelf, ShelfAccess};
+use blob_store::{AbsenceReceipt, PutReceipt, Shelf, ShelfAccess};
 use byte_view::BlobInfo;
-use change_undo::Entry;
+use desk_seats::SeatedDesk;
 use event_loop::Node;
 use host_disk::Disk;
 use left_right::Absorb;
@@ -15,7 +15,8 @@ use node_process::Stop;
 use peer_link::PeerConnection;
 use seen_lists::ListName;
 use shared_desk::Desk;
-use shared_house::{CachedFiles, DeskVisitor, Guest, SeatedDesk, SharedHouse};
+use shared_house::{CachedFiles, DeskVisitor, Guest, SharedHouse};
+use site_change::Entry;
 use site_desk::{DeskName, Notice, Seat};
 use std::alloc::Global;
 use std::net::{Net, TcpStream};
@@ -24,32 +25,32 @@ use std::thread::Threads;
 use std::time::Clock;
 
 /// What the threads of the nodes share.
-pub(crate) type HostShared<'a, 'g, 'h, J, K, D, S, T, R, Q> = Shared<
+pub(crate) type HostShared<'a, 'g, 'h, J, K, D, S, T, R, Q, U, N> = Shared<
     'a,
     R,
     Desk<J, K, D, S, T, R>,
     Mutex<Seat<J>>,
-    HostGroup<'g, 'h, R, S, Q>,
+    HostGroup<'g, 'h, R, S, Q, U, N>,
     Node<Noted<J>>,
     Node<PeerConnection>,
 >;
 
 /// What the threads of a node work with.
-type HostPlace<'s, 'g, 'h, J, R, S, Q> = Place<
+type HostPlace<'s, 'g, 'h, J, R, S, Q, U, N> = Place<
     's,
     Mutex<Seat<J>>,
-    HostGroup<'g, 'h, R, S, Q>,
+    HostGroup<'g, 'h, R, S, Q, U, N>,
     Node<Noted<J>>,
     Node<PeerConnection>,
 >;
 
 /// A worker of a node.
-type HostJob<'a, 'g, 'h, J, K, D, S, T, R, Q> = Job<
+type HostJob<'a, 'g, 'h, J, K, D, S, T, R, Q, U, N> = Job<
     'a,
     GuestSteps<
         J,
-        SeatedDesk<'a, J, K, D, S, T, R, R, Q>,
-        CachedFiles<'a, R, HostGroup<'g, 'h, R, S, Q>>,
+        SeatedDesk<'a, J, K, D, S, T, R, R, Q, U, N>,
+        CachedFiles<'a, R, HostGroup<'g, 'h, R, S, Q, U, N>>,
     >,
 >;
 
@@ -84,15 +85,17 @@ fn job_of<
     S: Shelf,
     T: Absorb<Notice<J>, State = [Entry; 0]> + Drop,
     R: Net<Stream = TcpStream> + Clock + Wait + Threads + Drop,
-    Q: ShelfAccess<S>,
+    Q: ShelfAccess<S, U, N>,
+    U: PutReceipt + Drop,
+    N: AbsenceReceipt + Drop,
 >(
     rt: &'a R,
     desk: &'a Desk<J, K, D, S, T, R>,
     access: &'a Q,
     parsing: &'a Mutex<()>,
-    place: &HostPlace<'a, 'g, 'h, J, R, S, Q>,
+    place: &HostPlace<'a, 'g, 'h, J, R, S, Q, U, N>,
     visitor: DeskVisitor<J>,
-) -> Option<HostJob<'a, 'g, 'h, J, K, D, S, T, R, Q>> {
+) -> Option<HostJob<'a, 'g, 'h, J, K, D, S, T, R, Q, U, N>> {
     let desk = SeatedDesk::new(rt, desk, access, place.seat, parsing);
     let files = CachedFiles::new(rt, place.group);
     let house = SharedHouse::new(visitor, desk, files).ok()?;
@@ -114,14 +117,16 @@ fn serve_with<
     S: Shelf,
     T: Absorb<Notice<J>, State = [Entry; 0]> + Drop,
     R: Net<Stream = TcpStream> + Clock + Wait + Threads + Drop,
-    Q: ShelfAccess<S>,
+    Q: ShelfAccess<S, U, N>,
+    U: PutReceipt + Drop,
+    N: AbsenceReceipt + Drop,
 >(
     rt: &'a R,
     alloc: Global,
     desk: &'a Desk<J, K, D, S, T, R>,
     access: &'a Q,
     parsing: &'a Mutex<()>,
-    place: &HostPlace<'a, 'g, 'h, J, R, S, Q>,
+    place: &HostPlace<'a, 'g, 'h, J, R, S, Q, U, N>,
     visitor: DeskVisitor<J>,
 ) {
     if let Some(job) = job_of(rt, desk, access, parsing, place, visitor) {
@@ -140,14 +145,16 @@ fn answer_left<
     S: Shelf,
     T: Absorb<Notice<J>, State = [Entry; 0]> + Drop,
     R: Net<Stream = TcpStream> + Clock + Wait + Threads + Drop,
-    Q: ShelfAccess<S>,
+    Q: ShelfAccess<S, U, N>,
+    U: PutReceipt + Drop,
+    N: AbsenceReceipt + Drop,
 >(
     rt: &'a R,
     alloc: Global,
     desk: &'a Desk<J, K, D, S, T, R>,
     access: &'a Q,
     parsing: &'a Mutex<()>,
-    place: &HostPlace<'a, 'g, 'h, J, R, S, Q>,
+    place: &HostPlace<'a, 'g, 'h, J, R, S, Q, U, N>,
 ) {
     let errands = GuestErrands {
         rt,
@@ -161,11 +168,14 @@ fn answer_left<
 }
 
 /// Answers other nodes from the part of a node in the group, until it ends.
-fn answer_peers<J: DeskName, S, R: Net<Stream = TcpStream> + Clock + Wait, Q: ShelfAccess<S>>(
-    rt: &R,
-    alloc: Global,
-    place: &HostPlace<'_, '_, '_, J, R, S, Q>,
-) {
+fn answer_peers<
+    J: DeskName,
+    S,
+    R: Net<Stream = TcpStream> + Clock + Wait,
+    Q: ShelfAccess<S, U, N>,
+    U: PutReceipt + Drop,
+    N: AbsenceReceipt + Drop,
+>(rt: &R, alloc: Global, place: &HostPlace<'_, '_, '_, J, R, S, Q, U, N>) {
     let steps = PeerSteps {
         rt,
         chunks: place.group,
@@ -189,10 +199,12 @@ fn do_task<
     S: Shelf,
     T: Absorb<Notice<J>, State = [Entry; 0]> + Drop,
     R: Net<Stream = TcpStream> + Clock + Wait + Threads + Drop,
-    Q: ShelfAccess<S>,
+    Q: ShelfAccess<S, U, N>,
+    U: PutReceipt + Drop,
+    N: AbsenceReceipt + Drop,
 >(
     alloc: Global,
-    shared: &HostShared<'a, '_, '_, J, K, D, S, T, R, Q>,
+    shared: &HostShared<'a, '_, '_, J, K, D, S, T, R, Q, U, N>,
     means: &Means<'a, '_, Q>,
     task: Task<J>,
 ) {
@@ -226,10 +238,12 @@ pub(crate) fn work_on<
     S: Shelf,
     T: Absorb<Notice<J>, State = [Entry; 0]> + Drop,
     R: Net<Stream = TcpStream> + Clock + Wait + Threads + Drop,
-    Q: ShelfAccess<S>,
+    Q: ShelfAccess<S, U, N>,
+    U: PutReceipt + Drop,
+    N: AbsenceReceipt + Drop,
 >(
     alloc: Global,
-    shared: &HostShared<'a, '_, '_, J, K, D, S, T, R, Q>,
+    shared: &HostShared<'a, '_, '_, J, K, D, S, T, R, Q, U, N>,
     means: &Means<'a, '_, Q>,
     task: Task<J>,
 ) {

@@ -5,8 +5,8 @@ use Rattle.site_change.specs.declared.refusals.ChangeRefusal.{ChangeRefusal}
 use Rattle.site_change.specs.declared.refusals.ChangeRefusal.TheVariants.{HistoryFull}
 use Rattle.site_state.specs.States.{State}
 use Rattle.site_change.specs.Changes.{refusal}
-use Rattle.change_undo.specs.declared.entries.Entry.{Entry}
-use Rattle.change_undo.specs.declared.entries.Entry.TheVariants.{Change, Undo}
+use Rattle.site_change.specs.declared.entries.Entry.{Entry}
+use Rattle.site_change.specs.declared.entries.Entry.TheVariants.{Change, Undo}
 use Rattle.change_undo.specs.Histories.{IsLegal, IsLegalAfter, change_refusal, is_accepted_in, is_allowed, run}
 use Rattle.host_opening.specs.declared.replays.ReplayFault.TheVariants.{NotLegal}
 use Rattle.host_opening.specs.Replays.{IsRefusedAfter, StopsAt}

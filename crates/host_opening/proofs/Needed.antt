@@ -18,7 +18,7 @@ use Rattle.host_names.specs.declared.cells.Cell.TheVariants as cell
 use Rattle.host_names.specs.declared.digests.Digest.{Digest}
 use Rattle.host_names.specs.declared.names.SiteName.{SiteName}
 use Rattle.site_state.specs.Files.{Paths}
-use Rattle.change_undo.specs.declared.entries.Entry.{Entry}
+use Rattle.site_change.specs.declared.entries.Entry.{Entry}
 use Rattle.host_opening.specs.Needs.{HasPublished, is_listed, more, need_if, need_in, publishes}
 
 is_eq-true : (o : Ordering) → is_eq o ≡ true → o ≡ Equal

@@ -7,8 +7,8 @@ use Rattle.site_change.specs.declared.refusals.ChangeError.TheVariants as error
 use Rattle.site_change.specs.declared.refusals.ChangeRefusal.{ChangeRefusal}
 use Rattle.site_change.specs.Refusals.{IsRefusedBy}
 use Rattle.site_change.specs.declared.commands.Command.{Command}
-use Rattle.change_undo.specs.declared.entries.Entry.{Entry}
-use Rattle.change_undo.specs.declared.entries.Entry.TheVariants.{Change}
+use Rattle.site_change.specs.declared.entries.Entry.{Entry}
+use Rattle.site_change.specs.declared.entries.Entry.TheVariants.{Change}
 use Rattle.change_undo.specs.Histories.{IsLegal, Past, commit_refusal, entry_at, run}
 use Rattle.change_undo.specs.Plans.{IsHistoryOver}
 use Rattle.host_opening.specs.declared.replays.ReplayFault.{ReplayFault}

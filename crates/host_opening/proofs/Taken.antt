@@ -3,7 +3,7 @@ use Rattle.std.proofs.lemmas.Bool.{eqb-true}
 use Rattle.std.proofs.Common.{◌==◌, true, false, cond, ◌≡◌, ◌∙◌, ℕ, zero, suc, ◌+◌, ◌-◌, ◌<◌, ◌≤◌, List, [], ◌∷◌, ◌++◌, IsSome, Option, Some, None, ap, arith, drop, length, refl, slice_get, subst, sym, take}
 use Rattle.std.specs.Borrow.{Bor}
 use Rattle.std.specs.Prelude.{option_copied}
-use Rattle.change_undo.specs.declared.entries.Entry.{Entry}
+use Rattle.site_change.specs.declared.entries.Entry.{Entry}
 use Rattle.change_undo.specs.Histories.{entry_at}
 
 module _ {X : Type 0} where

@@ -20,8 +20,8 @@ use Rattle.blob_store.specs.declared.openings.Wanted.{Wanted}
 use Rattle.site_state.specs.Files.{Paths}
 use Rattle.site_state.specs.Missing.{digests_of}
 use Rattle.site_change.specs.declared.commands.Command.TheVariants.{Open, Publish, Restore}
-use Rattle.change_undo.specs.declared.entries.Entry.{Entry}
-use Rattle.change_undo.specs.declared.entries.Entry.TheVariants.{Change, Undo}
+use Rattle.site_change.specs.declared.entries.Entry.{Entry}
+use Rattle.site_change.specs.declared.entries.Entry.TheVariants.{Change, Undo}
 use Rattle.change_undo.specs.Histories.{entry_at}
 use Rattle.host_opening.specs.Needs.{is_listed, more, one_wanted, need_at, need_if, need_in, need_up_to, publishes}
 use Rattle.host_opening.specs.WantedFiles.{AreWanted, IsPublished, Lists, wanted_digests}

@@ -12,9 +12,9 @@ use Rattle.host_names.specs.declared.digests.Digest.{Digest}
 use Rattle.blob_store.specs.declared.openings.Wanted.{Wanted}
 use Rattle.site_state.specs.Files.{Paths}
 use Rattle.site_change.specs.declared.commands.Command.TheVariants.{Open, Publish, Restore}
-use Rattle.change_undo.specs.declared.entries.Entry.{Entry}
-use Rattle.change_undo.specs.declared.entries.Entry.TheVariants.{Change}
-use Rattle.change_undo.specs.Logs.{Log, entry_at}
+use Rattle.site_change.specs.declared.entries.Entry.{Entry}
+use Rattle.site_change.specs.declared.entries.Entry.TheVariants.{Change}
+use Rattle.change_log.specs.Logs.{Log, entry_at}
 
 -- ---- which deploys are published
 

@@ -5,10 +5,10 @@ use Rattle.site_change.specs.declared.refusals.ChangeRefusal.{ChangeRefusal}
 use Rattle.site_change.specs.declared.refusals.ChangeError.{ChangeError}
 use Rattle.site_change.specs.declared.refusals.ChangeError.TheVariants as error
 use Rattle.site_state.specs.States.{State}
-use Rattle.change_undo.specs.declared.entries.Entry.{Entry}
-use Rattle.change_undo.specs.declared.entries.Entry.TheVariants.{Change, Undo}
+use Rattle.site_change.specs.declared.entries.Entry.{Entry}
+use Rattle.site_change.specs.declared.entries.Entry.TheVariants.{Change, Undo}
 use Rattle.change_undo.specs.Histories.{IsLegal, Past, commit_refusal, run, undo_refusal}
-use Rattle.change_undo.specs.Logs.{Log, last_number, next_number, with_entries}
+use Rattle.change_log.specs.Logs.{Log, last_number, next_number, with_entries}
 use Rattle.change_undo.specs.Plans.{IsHistoryOver}
 use Rattle.host_opening.specs.declared.replays.ReplayFault.{ReplayFault}
 use Rattle.host_opening.specs.declared.replays.ReplayFault.TheVariants as fault

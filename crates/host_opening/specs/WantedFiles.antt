@@ -8,8 +8,8 @@ use Rattle.blob_store.specs.declared.openings.Wanted.{Wanted}
 use Rattle.site_state.specs.Listings.{Listed}
 use Rattle.site_state.specs.Missing.{digests_of}
 use Rattle.site_change.specs.declared.commands.Command.TheVariants.{Open, Publish, Restore}
-use Rattle.change_undo.specs.declared.entries.Entry.TheVariants.{Change}
-use Rattle.change_undo.specs.Logs.{Log, entry_at}
+use Rattle.site_change.specs.declared.entries.Entry.TheVariants.{Change}
+use Rattle.change_log.specs.Logs.{Log, entry_at}
 
 -- the entry of this number opens a deploy of the site, and lists the digest
 abbrev pub Lists : Log → SiteName → ℕ → Digest → Type 0

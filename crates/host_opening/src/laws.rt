@@ -5,7 +5,7 @@ ghost use Rattle.host_names.specs.declared.digests.Digest.{Digest};
 ghost use Rattle.host_names.specs.declared.names.SiteName.{SiteName};
 ghost use Rattle.blob_store.specs.declared.openings.Wanted.{Wanted};
 ghost use Rattle.change_undo.specs.Histories.{IsLegal, Past};
-ghost use Rattle.change_undo.specs.Logs.{Log, empty_log, last_number};
+ghost use Rattle.change_log.specs.Logs.{Log, empty_log, last_number};
 ghost use Rattle.change_undo.specs.Plans.{IsHistoryOver};
 ghost use Rattle.host_opening.specs.Replays.{IsReplayed, StopsAt};
 ghost use Rattle.host_opening.specs.WantedFiles.{AreWanted, IsPublished, Lists};

@@ -1,8 +1,9 @@
 //! Entries by their numbers.
 ghost use Rattle.std.specs.Prelude.{◌≡◌, ◌≤◌, Some};
-ghost use Rattle.change_undo.specs.Logs.{entry_at, last_number};
+ghost use Rattle.change_log.specs.Logs.{entry_at, last_number};
 
-use change_undo::{Entry, Log};
+use change_log::Log;
+use site_change::Entry;
 
 /// The entry with this number, from 1 on. There must be one.
 pub(crate) fn entry_of(log: &Log, number: u64) -> &Entry

@@ -6,9 +6,9 @@ ghost use Rattle.host_names.specs.declared.cells.Cell.{Cell as Place};
 ghost use Rattle.host_opening.specs.Needs.{HasPublished, publishes};
 
 use crate::places::entry_of;
-use change_undo::{Entry, Log};
+use change_log::Log;
 use host_names::Cell;
-use site_change::Command;
+use site_change::{Command, Entry};
 use std::alloc::{AllocError, Global};
 use std::collections::BTreeSet;
 

@@ -1,14 +1,15 @@
 //! The history of some entries.
 ghost use Rattle.std.specs.Prelude.{◌≡◌, ◌≢◌, ◌≤◌, IfErr, IfOk, OnOk};
-ghost use Rattle.change_undo.specs.Logs.{with_entry};
+ghost use Rattle.change_log.specs.Logs.{with_entry};
 ghost use Rattle.change_undo.specs.Plans.{IsHistoryOver};
 ghost use Rattle.host_opening.specs.Replays.{IsAppendFault, IsReplayed, StopsAt};
 ghost use Rattle.host_opening.specs.declared.replays.ReplayFault.TheVariants as replay_fault;
 
 use crate::places::entry_of;
 use byte_view::Uploads;
-use change_undo::{Entry, History, Log};
-use site_change::ChangeError;
+use change_log::Log;
+use change_undo::History;
+use site_change::{ChangeError, Entry};
 use std::alloc::Global;
 use thiserror::Error;
 

@@ -1,13 +1,13 @@
 -- An entry is made beside the old history, and put into the journal.
 use Rattle.std.proofs.Common.{◌≡◌, ◌⊎◌, inl, inr, List, Option, Some, None, Result, Ok, Err, true, refl, sym, ap, subst}
-use Rattle.change_journal.specs.entries.Held.{Keeps}
-use Rattle.change_undo.specs.declared.entries.Entry.{Entry}
+use Rattle.change_journal.specs.Held.{Keeps}
+use Rattle.site_change.specs.declared.entries.Entry.{Entry}
 use Rattle.journaled_history.specs.declared.entry_faults.EntryFault.{EntryFault}
 use Rattle.journaled_history.specs.declared.entry_faults.EntryFault.TheVariants.{Device, OutOfMemory}
 use Rattle.host_server.specs.declared.host.entry_errors.EntryError.{EntryError}
 use Rattle.host_server.specs.Entries.{IsEntered, IsUndoRefusedAs, of_entry_fault}
 use Rattle.change_undo.specs.Histories.{may_take_memory}
-use Rattle.change_undo.specs.Logs.{with_entry}
+use Rattle.change_log.specs.Logs.{with_entry}
 use Rattle.host_disk.specs.declared.disks.Disk.{Ghosts}
 use Rattle.site_change.specs.declared.refusals.ChangeRefusal.{ChangeRefusal}
 use Rattle.journaled_history.specs.Puts.{IsPut, IsPutInVain}

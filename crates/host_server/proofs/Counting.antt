@@ -3,8 +3,8 @@ use Rattle.std.proofs.Common.{◌≡◌, inl, inr, ℕ, ◌≤◌, List, Result,
 use Rattle.blob_store.specs.Calls.{Call}
 use Rattle.http_wire.specs.Requests.{RequestParts}
 use Rattle.change_undo.specs.Histories.{may_take_memory}
-use Rattle.change_undo.specs.declared.entries.Entry.{Entry}
-use Rattle.change_undo.specs.declared.entries.Entry.TheVariants.{Change, Undo}
+use Rattle.site_change.specs.declared.entries.Entry.{Entry}
+use Rattle.site_change.specs.declared.entries.Entry.TheVariants.{Change, Undo}
 use Rattle.chunk_group.specs.Cached.{CachedShelf}
 use Rattle.site_change.specs.declared.refusals.ChangeRefusal.{ChangeRefusal}
 use Rattle.std.specs.Prelude.{None, Option, IsTrue}

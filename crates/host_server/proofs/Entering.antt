@@ -2,7 +2,7 @@
 use Rattle.std.proofs.Common.{◌≡◌, ℕ, ◌+◌, List, [], ◌∷◌, ◌++◌, length, slice_get, Some, refl, ap, ◌∙◌, arith}
 use Rattle.change_undo.proofs.Opened.{at_place}
 use Rattle.change_undo.specs.Histories.{entry_at}
-use Rattle.change_undo.specs.declared.entries.Entry.{Entry}
+use Rattle.site_change.specs.declared.entries.Entry.{Entry}
 
 at_end : (entries : List Entry) (entry : Entry) → slice_get (entries ++ entry ∷ []) (length entries) ≡ Some entry
 at_end [] entry = refl

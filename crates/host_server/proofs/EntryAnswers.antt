@@ -7,8 +7,8 @@ use Rattle.site_change.specs.declared.commands.Command.TheVariants as command
 use Rattle.site_change.specs.declared.refusals.ChangeRefusal.{ChangeRefusal}
 use Rattle.site_change.specs.declared.refusals.ChangeRefusal.TheVariants.{Clash, NoSuchDeploy}
 use Rattle.change_undo.specs.Histories.{entry_at, may_take_memory}
-use Rattle.change_undo.specs.declared.entries.Entry.{Entry}
-use Rattle.change_undo.specs.declared.entries.Entry.TheVariants.{Change, Undo}
+use Rattle.site_change.specs.declared.entries.Entry.{Entry}
+use Rattle.site_change.specs.declared.entries.Entry.TheVariants.{Change, Undo}
 use Rattle.http_wire.specs.Requests.{RequestParts}
 use Rattle.host_disk.specs.declared.disks.Disk.{Ghosts}
 use Rattle.host_api.specs.declared.bodies.Ask.{Ask}

@@ -5,8 +5,8 @@ use Rattle.std.proofs.lemmas.List.{append-nil, append_assoc}
 use Rattle.byte_view.specs.Contents.{Contents, with_file}
 use Rattle.host_names.specs.declared.names.SiteName.{SiteName}
 use Rattle.site_change.specs.declared.commands.Command.{Command}
-use Rattle.change_undo.specs.declared.entries.Entry.{Entry}
-use Rattle.change_undo.specs.declared.entries.Entry.TheVariants.{Change, Undo}
+use Rattle.site_change.specs.declared.entries.Entry.{Entry}
+use Rattle.site_change.specs.declared.entries.Entry.TheVariants.{Change, Undo}
 use Rattle.change_undo.specs.Histories.{Past, run, IsLegal, IsLegalAfter, is_allowed}
 use Rattle.change_undo.proofs.Runs.{history-grows, is_accepted, run-undone_at_once}
 use Rattle.site_change.proofs.MoreUploads.{IsWithin-itself}

@@ -1,8 +1,8 @@
 -- A journal keeps up with its host, call by call.
 use Rattle.std.proofs.Common.{◌≡◌, ◌≢◌, ◌⊎◌, inl, inr, List, [], ◌∷◌, ◌++◌, length, false, Option, Some, None, Result, Ok, Err, refl, sym, ap, subst, ◌∙◌}
 use Rattle.std.proofs.lemmas.List.{append-nil, append_assoc}
-use Rattle.change_journal.specs.entries.Held.{Keeps}
-use Rattle.change_undo.specs.declared.entries.Entry.{Entry}
+use Rattle.change_journal.specs.Held.{Keeps}
+use Rattle.site_change.specs.declared.entries.Entry.{Entry}
 use Rattle.host_api.specs.declared.refusals.Refusal.{Refusal}
 use Rattle.host_api.specs.declared.refusals.Refusal.TheVariants as reason
 use Rattle.host_answers.specs.Answers.{told_stop}

@@ -7,7 +7,7 @@ use Rattle.site_state.specs.Deploys.{listed_at}
 use Rattle.site_state.specs.States.{State, draft_at, kept_at}
 use Rattle.site_change.specs.declared.commands.Command.TheVariants.{Publish}
 use Rattle.site_change.specs.declared.refusals.ChangeRefusal.{ChangeRefusal}
-use Rattle.change_undo.specs.declared.entries.Entry.TheVariants.{Change}
+use Rattle.site_change.specs.declared.entries.Entry.TheVariants.{Change}
 use Rattle.host_api.specs.Bodies.{then_with}
 use Rattle.host_api.specs.declared.refusals.Refusal.{Refusal}
 use Rattle.host_api.specs.declared.refusals.Refusal.TheVariants as reason

@@ -19,7 +19,7 @@ use Rattle.site_change.specs.declared.commands.Command.{Command}
 use Rattle.site_change.specs.declared.commands.Command.TheVariants.{Open, Publish}
 use Rattle.site_change.specs.declared.refusals.ChangeRefusal.{ChangeRefusal}
 use Rattle.change_undo.proofs.Runs.{guard, legal-runs, run-change}
-use Rattle.change_undo.specs.declared.entries.Entry.TheVariants.{Change}
+use Rattle.site_change.specs.declared.entries.Entry.TheVariants.{Change}
 use Rattle.http_wire.specs.Requests.{RequestParts}
 use Rattle.host_disk.specs.declared.disks.Disk.{Ghosts}
 use Rattle.host_api.specs.declared.bodies.Ask.TheVariants as ask

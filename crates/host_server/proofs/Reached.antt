@@ -9,7 +9,7 @@ use Rattle.site_state.specs.Files.{Paths}
 use Rattle.site_state.specs.Missing.{is_lacking, first_lacking_of}
 use Rattle.site_state.proofs.FirstLacking.{first_lacking-grows}
 use Rattle.site_change.specs.Changes.{IsWithin}
-use Rattle.change_undo.specs.declared.entries.Entry.{Entry}
+use Rattle.site_change.specs.declared.entries.Entry.{Entry}
 use Rattle.change_undo.specs.Histories.{Past, entry_at}
 use Rattle.site_change.proofs.MoreUploads.{kept-with_file}
 use Rattle.host_server.specs.Readiness.{AreReached, listed_by, place_of}

@@ -20,8 +20,8 @@ use Rattle.host_server.proofs.KnownFiles.{answered_known}
 
 module _ {S D : Type 0} {disk : Ghosts D} (did : S → Call → S → Type 0) (failures : S → ℕ) (honest : S → Bool) (has : S → ShelfName → Option (List ℕ))
     (keeps : Keeps did honest has) where
-  pub opened_known : (old : D) (shelf : S) (limit : ℕ) (server : Server S D disk) → IsTrue (honest server.files.shelf) → IsOpened did old shelf limit server → HasKnown has server
-  opened_known old shelf limit server so is =
+  pub opened_known : (first second : D) (shelf : S) (limit : ℕ) (server : Server S D disk) → IsTrue (honest server.files.shelf) → IsOpened did first second shelf limit server → HasKnown has server
+  opened_known first second shelf limit server so is =
       let files = is.has_files in
       let known = server.house.uploads in
       let now = server.files.shelf in

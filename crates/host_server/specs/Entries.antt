@@ -3,8 +3,8 @@ use Rattle.std.specs.Prelude.{◌≡◌, [], ◌∷◌, true, Option, Some, None
 use Rattle.site_change.specs.declared.refusals.ChangeError.{ChangeError}
 use Rattle.site_change.specs.declared.refusals.ChangeError.TheVariants as change
 use Rattle.site_change.specs.declared.refusals.ChangeRefusal.{ChangeRefusal}
-use Rattle.change_journal.specs.entries.Held.{Keeps}
-use Rattle.change_undo.specs.declared.entries.Entry.{Entry}
+use Rattle.change_journal.specs.Held.{Keeps}
+use Rattle.site_change.specs.declared.entries.Entry.{Entry}
 use Rattle.change_undo.specs.Histories.{may_take_memory}
 use Rattle.host_answers.specs.declared.stops.Stop.{Stop}
 use Rattle.host_answers.specs.declared.stops.Stop.TheVariants as stop

@@ -5,9 +5,9 @@ use Rattle.std.specs.FinMap as map
 use Rattle.byte_view.specs.Contents.{Contents, with_file}
 use Rattle.site_state.specs.States.{State}
 use Rattle.site_change.specs.Changes.{IsWithin}
-use Rattle.change_undo.specs.declared.entries.Entry.{Entry}
+use Rattle.site_change.specs.declared.entries.Entry.{Entry}
 use Rattle.change_undo.specs.Histories.{Past, run, IsLegal}
-use Rattle.change_undo.specs.Logs as logs
+use Rattle.change_log.specs.Logs as logs
 use Rattle.change_undo.specs.Plans.{IsHistoryOver}
 
 -- the history, how many entries it may have, and the bytes that were uploaded

@@ -1,9 +1,9 @@
 -- What becomes of a journal where a host gets more entries.
 use Rattle.std.specs.Prelude.{◌≡◌, ◌⊎◌, List, [], ◌∷◌, Bool, false, Option, Some, None, Result, Err}
-use Rattle.change_journal.specs.entries.Held.{Keeps}
+use Rattle.change_journal.specs.Held.{Keeps}
 use Rattle.host_disk.specs.declared.disks.Disk.{Ghosts}
-use Rattle.change_undo.specs.Logs as logs
-use Rattle.change_undo.specs.declared.entries.Entry.{Entry}
+use Rattle.change_log.specs.Logs as logs
+use Rattle.site_change.specs.declared.entries.Entry.{Entry}
 use Rattle.host_api.specs.declared.refusals.Refusal.{Refusal}
 use Rattle.host_api.specs.declared.refusals.Refusal.TheVariants as reason
 use Rattle.journaled_history.specs.Puts.{IsPut, IsPutInVain}

@@ -11,8 +11,8 @@ use Rattle.site_state.specs.States.{draft_at, kept_at}
 use Rattle.site_state.specs.Values.{digest_eq}
 use Rattle.site_change.specs.declared.commands.Command.{Command}
 use Rattle.site_change.specs.declared.commands.Command.TheVariants.{Open, Publish}
-use Rattle.change_undo.specs.declared.entries.Entry.{Entry}
-use Rattle.change_undo.specs.declared.entries.Entry.TheVariants.{Change}
+use Rattle.site_change.specs.declared.entries.Entry.{Entry}
+use Rattle.site_change.specs.declared.entries.Entry.TheVariants.{Change}
 use Rattle.change_undo.specs.Histories.{entry_at}
 use Rattle.host_api.specs.Bodies.{then_with}
 use Rattle.host_api.specs.declared.refusals.Refusal.{Refusal}

@@ -3,7 +3,7 @@ use Rattle.std.specs.Prelude.{ℕ, Bool, false, ◌&&◌, is_none}
 use Rattle.host_names.specs.declared.names.SiteName.{SiteName}
 use Rattle.site_change.specs.declared.commands.Command.{Command}
 use Rattle.site_change.specs.declared.commands.Command.TheVariants.{Open, Publish}
-use Rattle.change_undo.specs.declared.entries.Entry.TheVariants.{Change}
+use Rattle.site_change.specs.declared.entries.Entry.TheVariants.{Change}
 use Rattle.host_server.specs.Hosts.{Host, next_number, with_entry}
 use Rattle.host_server.specs.Outcomes.{is_ready}
 use Rattle.host_server.specs.Reasons.{commit_refusal}

@@ -8,10 +8,10 @@ use Rattle.host_names.specs.declared.digests.Digest.{Digest}
 use Rattle.site_state.specs.Files.{Paths}
 use Rattle.site_state.specs.Missing.{first_lacking_of}
 use Rattle.site_change.specs.declared.commands.Command.TheVariants.{Open}
-use Rattle.change_undo.specs.declared.entries.Entry.{Entry}
-use Rattle.change_undo.specs.declared.entries.Entry.TheVariants.{Change}
+use Rattle.site_change.specs.declared.entries.Entry.{Entry}
+use Rattle.site_change.specs.declared.entries.Entry.TheVariants.{Change}
 use Rattle.change_undo.specs.Histories.{Past}
-use Rattle.change_undo.specs.Logs.{Log, entry_at}
+use Rattle.change_log.specs.Logs.{Log, entry_at}
 use Rattle.host_server.specs.Hosts.{IsKept}
 
 -- the place that is kept for the deploy of a number; the first where none is

@@ -86,22 +86,23 @@ IsEmptyServed disk duplex says_fail status old new said new_said =
     ((start : Server MemShelf MemDisk disk) × IsEmpty start × IsServed (IsAnswer Does (λ shelf. 0)) duplex says_fail start status old new said new_said)
     ⊎ (IsOutOfMemory says_fail status said new_said × (new ≡ old))
 
--- A run over the store of a disk and a shelf: a server is opened of them, and a connection to it is served; or none can be, and that
+-- A run over the store of two slots and a shelf: a server is opened of them, and a connection to it is served; or none can be, and that
 -- is said, and nothing is read or answered.
 abbrev pub RunsStore : {S D X : Type 0} → (disk : Ghosts D) → (did : S → Call → S → Type 0) → (failures : S → ℕ) → (duplex : duplexes.Ghosts X) → (says_fail : Type 0)
-    → (first : D) → (shelf : S) → ℕ → (old new : X) → (said new_said : Stream) → Type 0
-RunsStore {S = S} {D = D} disk did failures duplex says_fail first shelf status old new said new_said =
-    ((start : Server S D disk) × IsOpened did first shelf 1000000 start
+    → (first second : D) → (shelf : S) → ℕ → (old new : X) → (said new_said : Stream) → Type 0
+RunsStore {S = S} {D = D} disk did failures duplex says_fail first second shelf status old new said new_said =
+    ((start : Server S D disk) × IsOpened did first second shelf 1000000 start
     × IsServed (IsAnswer did failures) duplex says_fail start status old new said new_said)
-    ⊎ ((why : OpenFault) × (last : D) × (last_shelf : S) × IsOpenFault disk did first shelf 1000000 why last last_shelf
+    ⊎ ((why : OpenFault) × (last_first last_second : D) × (last_shelf : S)
+    × IsOpenFault disk did first second shelf 1000000 why last_first last_second last_shelf
     × SaysFault says_fail why status said new_said × (new ≡ old))
 
--- A run over the store in a folder, which has a name: over the disk and the shelf there; or there is none, since the journal's file can't be
+-- A run over the store in a folder, which has a name: over the slots and the shelf there; or there are none, since the journal's files can't be
 -- opened, or memory ran out, and that is said.
 abbrev pub RunsFolder : {S D X : Type 0} → (disk : Ghosts D) → (shelf : shelves.Ghosts S) → (duplex : duplexes.Ghosts X) → (says_fail : Type 0)
     → (folder : List ℕ) → ℕ → (old new : X) → (said new_said : Stream) → Type 0
 RunsFolder {S = S} {D = D} disk shelf duplex says_fail folder status old new said new_said =
-    ((folder ≢ []) × ((first : D) × (there : S) × RunsStore disk shelf.did shelf.failures duplex says_fail first there status old new said new_said))
+    ((folder ≢ []) × ((first second : D) × (there : S) × RunsStore disk shelf.did shelf.failures duplex says_fail first second there status old new said new_said))
     ⊎ ((why : OpenFault) × ((why ≡ open_fault.JournalDevice) ⊎ (why ≡ open_fault.OutOfMemory)) × SaysFault says_fail why status said new_said
     × (new ≡ old))
 

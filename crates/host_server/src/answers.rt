@@ -1,7 +1,7 @@
 //! What a request is answered.
 ghost use Rattle.std.specs.Prelude.{◌≡◌, ℕ, ◌+◌, ◌≤◌, List, [], ◌∷◌, ◌++◌, length};
-ghost use Rattle.change_undo.specs.Logs as logs;
-ghost use Rattle.change_undo.specs.declared.entries.Entry.TheVariants as entry;
+ghost use Rattle.change_log.specs.Logs as logs;
+ghost use Rattle.site_change.specs.declared.entries.Entry.TheVariants as entry;
 ghost use Rattle.host_names.specs.declared.names.SiteName.{SiteName as Site};
 ghost use Rattle.site_change.specs.declared.commands.Command.{Command as Change};
 ghost use Rattle.host_server.specs.Asks.{IsAnswer};

@@ -3,6 +3,7 @@
 
 mod answers;
 mod host;
+mod kept_files;
 pub mod laws;
 mod lost_journals;
 mod opening_lines;
@@ -21,4 +22,4 @@ pub use opening_lines::{line_of, status_of};
 pub use runs::fail;
 pub use servers::Server;
 pub use solo::run_solo;
-pub use stores::{open_folder, run_store};
+pub use stores::{Store, open_folder, run_store};

@@ -12,16 +12,16 @@ use std::rt::Files;
 const BEGINS_EMPTY: &str =
     "filehost: the folder has files of a store and no journal: it begins with an empty history\n";
 
-/// Whether a file of this name is a piece or a table on a shelf.
-fn is_of_shelf(name: &str) -> bool {
-    name.starts_with("c-") || name.starts_with("t-")
+/// Whether a file of this name is a piece or a table on a shelf, or a file of the journal that was kept.
+fn is_of_store(name: &str) -> bool {
+    name.starts_with("c-") || name.starts_with("t-") || name.starts_with("journal.kept-")
 }
 
 /// Whether a folder has such files. A name that is no text is not one of them.
 fn has_files<R: Files>(rt: &R, alloc: Global, folder: &str) -> io::Result<bool> {
     for entry in fs::read_dir(&(rt, alloc), folder)? {
         let is_found = match entry {
-            Ok(found) => is_of_shelf(found.file_name()),
+            Ok(found) => is_of_store(found.file_name()),
             Err(error) if error.kind() == ErrorKind::InvalidFilename => false,
             Err(error) => return Err(error),
         };
@@ -32,13 +32,31 @@ fn has_files<R: Files>(rt: &R, alloc: Global, folder: &str) -> io::Result<bool> 
     Ok(false)
 }
 
-/// Whether a folder has such files, but nothing at the path of its journal.
-fn lacks_journal<R: Files>(rt: &R, alloc: Global, folder: &str, journal: &str) -> io::Result<bool> {
-    Ok(!fs::exists(rt, journal)? && has_files(rt, alloc, folder)?)
+/// Whether a slot may have a file of the journal. One of at most a byte has none.
+fn may_have_journal<R: Files>(rt: &R, slot: &str) -> io::Result<bool> {
+    match fs::metadata(rt, slot) {
+        Ok(found) => Ok(found.len() > 1),
+        Err(error) if error.kind() == ErrorKind::NotFound => Ok(false),
+        Err(error) => Err(error),
+    }
+}
+
+/// Whether a folder has such files, but neither slot has a file of its journal.
+fn lacks_journal<R: Files>(
+    rt: &R,
+    alloc: Global,
+    folder: &str,
+    first: &str,
+    second: &str,
+) -> io::Result<bool> {
+    if may_have_journal(rt, first)? || may_have_journal(rt, second)? {
+        return Ok(false);
+    }
+    has_files(rt, alloc, folder)
 }
 
 /// Why a folder that can't be looked through isn't opened.
-fn fault_of(error: &io::Error) -> OpenFault
+pub(crate) fn fault_of(error: &io::Error) -> OpenFault
     ensures { (result ≡ JournalDevice) ⊎ (result ≡ OutOfMemory) }
 {
     match error.kind() {
@@ -53,11 +71,12 @@ pub(crate) fn tell_of_lost_journal<R: Files + Eprint>(
     rt: &R,
     alloc: Global,
     folder: &str,
-    journal: &str,
+    first: &str,
+    second: &str,
 ) -> Result<(), OpenFault>
     ensures fault { IfErr result (λ why. (why ≡ JournalDevice) ⊎ (why ≡ OutOfMemory)) }
 {
-    match lacks_journal(rt, alloc, folder, journal) {
+    match lacks_journal(rt, alloc, folder, first, second) {
         Ok(true) => {
             let _ = rt.eprint(BEGINS_EMPTY);
             Ok(())

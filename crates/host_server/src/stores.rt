@@ -3,6 +3,7 @@ ghost use Rattle.std.specs.Prelude.{◌≡◌, ◌≢◌, ◌⊎◌, [], IfErr, 
 ghost use Rattle.host_server.specs.Solo.{RunsFolder, RunsStore, SaysFault};
 ghost use Rattle.found_host.specs.declared.faults.OpenFault.TheVariants.{JournalDevice, OutOfMemory};
 
+use crate::kept_files::keep_files;
 use crate::lost_journals::tell_of_lost_journal;
 use crate::opening_lines::{line_of, status_of};
 use crate::runs::{fail, serve_server};
@@ -18,22 +19,37 @@ use std::io::Eprint;
 use std::path::PathBuf;
 use std::rt::Files;
 
-/// The name of the journal's file in a folder.
-const JOURNAL: &str = "journal";
+/// The names of the journal's two slots in a folder.
+pub(crate) const FIRST: &str = "journal";
 
-/// Serves one connection over the store of a disk and a shelf, and answers the exit status. If it isn't 0, `errors` is told why: either the
-/// store can't be opened, and nothing is answered, or the connection failed.
+pub(crate) const SECOND: &str = "journal.2";
+
+/// What a store is kept on: the disks of its journal's two slots, and its shelf.
+#[derive(Drop)]
+pub struct Store<D, S> {
+    pub first: D,
+    pub second: D,
+    pub shelf: S,
+}
+
+/// Serves one connection over a store, and answers the exit status. If it isn't 0, `errors` is told why: either the store can't be opened, and
+/// nothing is answered, or the connection failed.
 pub fn run_store<S: Shelf + Drop, D: Disk + Drop, X: Steady, E: Sink>(
     alloc: Global,
-    disk: D,
-    shelf: S,
+    store: Store<D, S>,
     duplex: &mut X,
     errors: &mut E,
 ) -> u8
-    ensures { RunsStore D.Disk S.did S.failures X.Duplex E.may_fail disk shelf result
+    ensures { RunsStore D.Disk S.did S.failures X.Duplex E.may_fail store.first store.second store.shelf result
         duplex.old duplex.new (E.held errors.old) (E.held errors.new) }
 {
-    match Server::open(alloc, disk, shelf, GREATEST_LIMIT) {
+    match Server::open(
+        alloc,
+        store.first,
+        store.second,
+        store.shelf,
+        GREATEST_LIMIT,
+    ) {
         Ok(server) => serve_server(alloc, server, duplex, errors),
         Err(stop) => refuse(errors, &stop.fault),
     }
@@ -46,35 +62,44 @@ fn refuse<E: Sink>(errors: &mut E, fault: &OpenFault) -> u8
     fail(errors, status_of(fault), line_of(fault).as_str())
 }
 
-/// The disk of the journal in a folder, which is locked before anything is looked for there.
-fn open_journal<'a, R: Files<File = File> + Eprint>(
+/// The disks of the journal's slots in a folder, which is locked before anything is looked for there. A file of which the opening would drop more
+/// than one unfinished record may have left is kept first.
+fn open_slots<'a, R: Files<File = File> + Eprint>(
     rt: &'a R,
     alloc: Global,
     folder: &str,
-) -> Result<FileDisk<'a, R>, OpenFault>
+) -> Result<(FileDisk<'a, R>, FileDisk<'a, R>), OpenFault>
     ensures fault { IfErr result (λ why. (why ≡ JournalDevice) ⊎ (why ≡ OutOfMemory)) }
 {
-    let path = PathBuf::from_str(alloc, folder)?.join(alloc, JOURNAL)?;
+    let first = PathBuf::from_str(alloc, folder)?.join(alloc, FIRST)?;
+    let second = PathBuf::from_str(alloc, folder)?.join(alloc, SECOND)?;
     let locked = LockedFolder::lock(rt, folder).map_err(|_| OpenFault::JournalDevice)?;
-    tell_of_lost_journal(rt, alloc, folder, path.as_str())?;
-    FileDisk::open_in(rt, locked, path).map_err(|_| OpenFault::JournalDevice)
+    tell_of_lost_journal(rt, alloc, folder, first.as_str(), second.as_str())?;
+    let (first, second) = FileDisk::open_both(rt, locked, first, second).map_err(
+        |_| OpenFault::JournalDevice,
+    )?;
+    keep_files(rt, alloc, folder, first, second)
 }
 
-/// The disk and the shelf in an existing folder. If that has files of a store and no journal, one line on standard error says so.
+/// What an existing folder keeps a store on. If it has files of a store and no journal, one line on standard error says so.
 pub fn open_folder<'a, R: Files<File = File> + Eprint>(
     rt: &'a R,
     alloc: Global,
     folder: &str,
-) -> Result<(FileDisk<'a, R>, DirShelf<'a, R>), OpenFault>
+) -> Result<Store<FileDisk<'a, R>, DirShelf<'a, R>>, OpenFault>
     ensures named { OnOk result (folder.now ≢ []) }
     ensures fault { IfErr result (λ why. (why ≡ JournalDevice) ⊎ (why ≡ OutOfMemory)) }
 {
     if folder.is_empty() {
         return Err(OpenFault::JournalDevice);
     }
-    let disk = open_journal(rt, alloc, folder)?;
+    let (first, second) = open_slots(rt, alloc, folder)?;
     let shelf = DirShelf::new(rt, alloc, folder)?;
-    Ok((disk, shelf))
+    Ok(Store {
+        first,
+        second,
+        shelf,
+    })
 }
 
 /// The same over the store in a folder.
@@ -89,7 +114,7 @@ pub(crate) fn run_folder<R: Files<File = File> + Eprint, X: Steady, E: Sink>(
         folder.now result duplex.old duplex.new (E.held errors.old) (E.held errors.new) }
 {
     match open_folder(rt, alloc, folder) {
-        Ok((disk, shelf)) => run_store(alloc, disk, shelf, duplex, errors),
+        Ok(store) => run_store(alloc, store, duplex, errors),
         Err(fault) => refuse(errors, &fault),
     }
 }

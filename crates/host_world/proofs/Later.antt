@@ -1,7 +1,7 @@
 -- A desk goes on: what was uploaded stays, and so do looks.
 use Rattle.std.proofs.Common.{◌≡◌, ℕ, zero, suc, ◌&&◌, Bool, true, false, cond, List, [], ◌∷◌, ◌++◌, length, slice_get, Option, Some, refl, ap, ◌∙◌}
 use Rattle.site_change.specs.Changes.{IsWithin}
-use Rattle.change_undo.specs.Logs.{Log, with_entry}
+use Rattle.change_log.specs.Logs.{Log, with_entry}
 use Rattle.world_desk.specs.Visitors.{Watched, looked, taught}
 use Rattle.world_desk.specs.Desks.{Ask, DeskState, DeskStep, Enter, Learn, Publish, Upload, change_at, happens, is_published, is_taken, look_at, looks_of}
 use Rattle.world_desk.proofs.Changing.{uploads_stay}

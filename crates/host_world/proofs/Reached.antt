@@ -5,9 +5,9 @@ use Rattle.host_names.specs.declared.digests.Digest.{Digest}
 use Rattle.byte_view.specs.Contents.{Contents}
 use Rattle.site_state.specs.States.{State}
 use Rattle.site_change.specs.Changes.{IsWithin}
-use Rattle.change_undo.specs.declared.entries.Entry.TheVariants as entry
+use Rattle.site_change.specs.declared.entries.Entry.TheVariants as entry
 use Rattle.change_undo.specs.Histories.{IsLegal, run}
-use Rattle.change_undo.specs.Logs.{BeginsWith, Log}
+use Rattle.change_log.specs.Logs.{BeginsWith, Log}
 use Rattle.host_api.specs.declared.refusals.Refusal.{Refusal}
 use Rattle.host_replies.specs.Replies.{Answer}
 use Rattle.world_desk.specs.Desks as desk

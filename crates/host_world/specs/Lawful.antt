@@ -3,7 +3,7 @@ use Rattle.std.specs.Prelude.{◌≡◌, ℕ, List, slice_get, Some, true}
 use Rattle.std.specs.List.{AllByRecursion}
 use Rattle.site_state.specs.States.{State}
 use Rattle.change_undo.specs.Histories.{IsLegal, run}
-use Rattle.change_undo.specs.Logs.{Log}
+use Rattle.change_log.specs.Logs.{Log}
 use Rattle.world_desk.specs.Desks.{DeskState, is_published, look_at}
 use Rattle.world_node.specs.Lawful.{OpenOnce, ReadersAgree}
 use Rattle.world_node.specs.Nodes.{NodeState}

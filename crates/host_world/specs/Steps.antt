@@ -2,7 +2,7 @@
 use Rattle.std.specs.Prelude.{◌≡◌, ℕ, List, [], ◌∷◌, ◌++◌, slice_get, Option, Some, None, option_map, Result, Ok}
 use Rattle.host_names.specs.declared.digests.Digest.{Digest}
 use Rattle.site_state.specs.States.{State}
-use Rattle.change_undo.specs.declared.entries.Entry.TheVariants as entry
+use Rattle.site_change.specs.declared.entries.Entry.TheVariants as entry
 use Rattle.change_undo.specs.Histories.{run}
 use Rattle.host_replies.specs.Replies.{Answer}
 use Rattle.world_desk.specs.Desks as desk

@@ -10,7 +10,7 @@ use crate::laws::worlds_stay_lawful;
 use crate::places::{call_at, nodes_of, ready_at, take_at, want_at};
 use crate::steps::Step;
 use crate::visits::{Visits, begin_at, go_on_at, visits_of};
-use change_undo::Log;
+use change_log::Log;
 use std::alloc::{AllocError, Global};
 use std::marker::Model;
 use std::sync::Arc;

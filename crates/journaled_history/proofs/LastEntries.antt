@@ -1,7 +1,7 @@
 -- The last entry of a log.
 use Rattle.std.proofs.Common.{◌≡◌, ℕ, ◌+◌, ◌-◌, ◌==◌, true, false, cond, List, [], ◌∷◌, ◌++◌, Option, Some, None, arith, length, length-append, slice_get, unwrap_or, refl, ap, subst, ◌∙◌}
-use Rattle.change_undo.specs.declared.entries.Entry.{Entry}
-use Rattle.change_undo.specs.Logs.{entry_at, with_entry}
+use Rattle.site_change.specs.declared.entries.Entry.{Entry}
+use Rattle.change_log.specs.Logs.{entry_at, with_entry}
 
 at_end : (entries : List Entry) (entry : Entry) → slice_get (entries ++ entry ∷ []) (length entries) ≡ Some entry
 at_end [] entry = refl

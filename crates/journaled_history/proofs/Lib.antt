@@ -1,2 +1,3 @@
 mod InRange
 mod LastEntries
+mod PutFaults

@@ -4,13 +4,13 @@ ghost use Rattle.byte_view.specs.Contents.{Contents};
 ghost use Rattle.site_change.specs.Refusals.{IsRefusedBy};
 ghost use Rattle.host_names.specs.declared.names.SiteName.{SiteName as Site};
 ghost use Rattle.site_change.specs.declared.commands.Command.{Command as Change};
-ghost use Rattle.change_journal.specs.texts.Spells.{IsInRange};
+ghost use Rattle.entry_texts.specs.Spells.{IsInRange};
 ghost use Rattle.change_undo.specs.Histories;
 ghost use Rattle.change_undo.specs.Histories.{IsUndoRefusedBy};
-ghost use Rattle.change_undo.specs.Logs.{with_entry};
+ghost use Rattle.change_log.specs.Logs.{with_entry};
 ghost use Rattle.change_undo.specs.Plans.{IsHistoryOver};
-ghost use Rattle.change_undo.specs.declared.entries.Entry.{Entry as Line};
-ghost use Rattle.change_undo.specs.declared.entries.Entry.TheVariants as entry;
+ghost use Rattle.site_change.specs.declared.entries.Entry.{Entry as Line};
+ghost use Rattle.site_change.specs.declared.entries.Entry.TheVariants as entry;
 ghost use Rattle.journaled_history.specs.declared.entry_faults.EntryFault.TheVariants.{Device, OutOfMemory};
 ghost use Rattle.journaled_history.specs.Puts.{IsPut, IsPutInVain};
 

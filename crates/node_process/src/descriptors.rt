@@ -2,7 +2,7 @@
 ghost use Rattle.std.specs.Prelude.{◌≤◌, IfSome};
 
 use crate::stopping::Stop;
-use blob_store::{AccessFault, Files, ShelfAccess, ShelfName};
+use blob_store::{AbsenceReceipt, AccessFault, Files, Found, PutReceipt, ShelfAccess, ShelfName};
 use std::sync::{Mutex, Wait};
 
 /// How many descriptors are kept for what all nodes share: the standard streams, the journal, the folder and what the program inherits.
@@ -50,14 +50,18 @@ impl<'a, Q> GivingAccess<'a, Q> {
 /// How often a call is made again at most. What one connection gives another thread may take first.
 const MOST_TRIES: u32 = 8;
 
-impl<S, Q: ShelfAccess<S>> ShelfAccess<S> for GivingAccess<'_, Q> {
+impl<S, Q: ShelfAccess<S, U, N>, U: PutReceipt + Drop, N: AbsenceReceipt + Drop> ShelfAccess<
+    S,
+    U,
+    N,
+> for GivingAccess<'_, Q> {
     fn put<W: Wait>(
         &self,
         rt: &W,
         files: &Mutex<Files<S>>,
         name: ShelfName,
         bytes: &[u8],
-    ) -> Result<(), AccessFault> {
+    ) -> Result<U, AccessFault> {
         for _ in 0..MOST_TRIES {
             let outcome = self.access.put(rt, files, name, bytes);
             if !self.gives(rt, &outcome) {
@@ -72,7 +76,7 @@ impl<S, Q: ShelfAccess<S>> ShelfAccess<S> for GivingAccess<'_, Q> {
         rt: &W,
         files: &Mutex<Files<S>>,
         name: ShelfName,
-    ) -> Result<Option<Vec<u8>>, AccessFault> {
+    ) -> Result<Found<N>, AccessFault> {
         for _ in 0..MOST_TRIES {
             let outcome = self.access.get(rt, files, name);
             if !self.gives(rt, &outcome) {

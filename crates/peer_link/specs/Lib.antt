@@ -1,4 +1,5 @@
 -- what public clauses say
+pub mod PeerPlaces
 pub mod Paths
 pub mod Asking
 pub mod Answers

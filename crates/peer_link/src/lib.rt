@@ -8,6 +8,7 @@ mod connections;
 mod faults;
 mod links;
 mod paths;
+mod peer_streams;
 mod peers;
 mod phases;
 mod serving;

@@ -1,8 +1,10 @@
 //! Peers over TCP.
-ghost use Rattle.std.specs.Prelude.{◌≡◌, ◌≤◌, IfOk, IfSome, IsSome, None, length, vec_len, ⊤};
+ghost use Rattle.std.specs.Prelude.{◌≡◌, ◌≤◌, IfOk, IfSome, IsSome, None, Some, length, slice_get, vec_len, ⊤};
+ghost use Rattle.peer_link.specs.PeerPlaces.{IsReached};
 
 use crate::asks::{AskFault, CHUNK_LIMIT, ask};
 use crate::links::{PeerFault, PeerLink};
+use crate::peer_streams::connect_to;
 use crate::peers::Peer;
 use crate::timed::{Budget, TimedReads, TimedWrites};
 use host_names::Digest;
@@ -66,9 +68,11 @@ fn milliseconds(time: Duration) -> u64 {
     u64::try_from(time.as_millis()).unwrap_or(u64::MAX)
 }
 
-/// A fetch that may ask its peer.
+/// A fetch that may ask the peer at a place.
 #[derive(Drop)]
 struct Fetch<'a, R> {
+    peers: &'a [Peer],
+    place: usize,
     peer: &'a Peer,
     budget: Budget<'a, R>,
     /// Whether the budget begins with it.
@@ -78,20 +82,21 @@ struct Fetch<'a, R> {
 impl<R: Net<Stream = TcpStream> + Clock> Fetch<'_, R> {
     /// Asks the peer for a chunk, over a new connection.
     fn ask(&self, rt: &R, alloc: Global, key: &Digest) -> Result<Vec<u8>, AskFault>
-        ensures { IfOk result (λ bytes. vec_len bytes ≤ CHUNK_LIMIT) }
+        ensures within { IfOk result (λ bytes. vec_len bytes ≤ CHUNK_LIMIT) }
+        ensures reached { IfOk result (λ _. IsReached self.now.peers.now self.now.place) }
     {
         let left = self.budget.left().ok_or(AskFault::NoAnswer)?;
-        let address = self.peer.address();
-        let stream = TcpStream::connect_timeout(rt, &address, left).map_err(
-            |_| AskFault::NoAnswer,
-        )?;
+        let Ok(made) = connect_to(rt, self.peers, self.place, left) else {
+            return Err(AskFault::NoAnswer);
+        };
+        let stream = made.stream();
         let mut duplex = Pair {
             source: TimedReads {
-                stream: &stream,
+                stream,
                 budget: &self.budget,
             },
             sink: TimedWrites {
-                stream: &stream,
+                stream,
                 budget: &self.budget,
             },
         };
@@ -106,11 +111,14 @@ impl<R: Net<Stream = TcpStream> + Clock> Fetch<'_, R> {
 
 impl<'a, R: Net<Stream = TcpStream> + Clock> TcpLink<'a, R> {
     /// A fetch from the peer at a place, unless the budget is over or the peer is passed over.
-    fn begin(&mut self, peer: usize) -> Option<Fetch<'a, R>>
+    fn begin(&mut self, place: usize) -> Option<Fetch<'a, R>>
         ensures began { IfSome result (λ _. IsSome self.new.end) }
         ensures one { IsSome self.old.end → self.new.end ≡ self.old.end }
+        ensures place { IfSome result (λ fetch. (fetch.peers.now ≡ self.old.peers.now) × (fetch.place ≡ place)) }
+        ensures peer { IfSome result (λ fetch. slice_get self.old.peers.now place ≡ Some fetch.peer.now) }
     {
-        let peer = self.peers.get(peer)?;
+        let peers = self.peers;
+        let peer = peers.get(place)?;
         let now = self.rt.monotonic().ok()?;
         let whole = now.saturating_add(Duration::from_secs(BUDGET_SECONDS));
         let end = self.end.unwrap_or(whole);
@@ -120,6 +128,8 @@ impl<'a, R: Net<Stream = TcpStream> + Clock> TcpLink<'a, R> {
         let is_first = self.end.is_none();
         self.end = Some(end);
         Some(Fetch {
+            peers,
+            place,
             peer,
             budget: Budget::new(self.rt, end),
             is_first,
@@ -140,15 +150,17 @@ impl<'a, R: Net<Stream = TcpStream> + Clock> TcpLink<'a, R> {
     }
 }
 
-/// A fetch ends when the budget of the link is over, and what it gives has no more bytes than a chunk. A budget that has begun stays as it is.
+/// A fetch ends when the budget of the link is over, and what it gives has no more bytes than a chunk, and comes over a connection to the peer at that place. A
+/// budget that has begun stays as it is.
 impl<R: Net<Stream = TcpStream> + Clock> PeerLink for TcpLink<'_, R> {
     ghost use Rattle.peer_link.specs.declared.asks.TheConstants.{CHUNK_LIMIT};
+    ghost use Rattle.peer_link.specs.PeerPlaces.{IsReached};
 
-    ghost fetched = { λ old _ _ given new. IfSome given (λ bytes. (length bytes ≤ CHUNK_LIMIT) × IsSome new.end)
+    ghost fetched = { λ old place _ given new. IfSome given (λ bytes. (length bytes ≤ CHUNK_LIMIT) × IsSome new.end × IsReached old.peers.now place)
         × (IsSome old.end → new.end ≡ old.end) };
 
-    fn fetch(&mut self, peer: usize, key: &Digest) -> Result<Vec<u8>, PeerFault> {
-        let fetch = self.begin(peer).ok_or(PeerFault)?;
+    fn fetch(&mut self, place: usize, key: &Digest) -> Result<Vec<u8>, PeerFault> {
+        let fetch = self.begin(place).ok_or(PeerFault)?;
         match fetch.ask(self.rt, self.alloc, key) {
             Ok(bytes) => {
                 fetch.peer.note_answer(self.notices);

@@ -16,3 +16,10 @@ pub fn one_of_two_fronts_begins_the_other<E, L: ListName<E>>(one: &Front<E, L>, 
         other.begins(one);
     }
 }
+
+/// Each front begins with the items that its list began with.
+pub fn each_front_begins_with_what_was_found<E, L: ListName<E>>(front: &Front<E, L>)
+    ensures { IsPrefix L.found front.now }
+{
+    front.seen();
+}

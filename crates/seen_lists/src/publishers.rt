@@ -1,7 +1,9 @@
 //! A list, with what is shown of it.
 ghost use Rattle.std.specs.Prelude.{◌≡◌, ◌<◌, ◌^◌, ◌++◌, ◌∷◌, [], IfOk, IfSome, List, MatchOption, Some, length};
+ghost use mathlib.Core.List.{IsPrefix};
 ghost use Rattle.left_right.specs.Handles.{pending, published};
 
+use crate::fronts::Front;
 use crate::lists::SeenList;
 use crate::names::ListName;
 use crate::receipts::{Listed, Receipt};
@@ -110,6 +112,15 @@ impl<
         ensures { result.now ≡ self.now }
     {
         &self.last
+    }
+
+    /// Tells a front of all items, each of which is shown. What it had seen was a beginning of them.
+    pub fn tell(&mut self, front: &mut Front<E, L>)
+        ensures same { self.new ≡ self.old }
+        ensures told { front.new ≡ self.old }
+        ensures kept { IsPrefix front.old front.new }
+    {
+        self.list.tell(front);
     }
 
     /// Pushes an item, shows the snapshot that has it, and answers that snapshot's receipt.

@@ -6,7 +6,7 @@ use Rattle.std.specs.declared.sync.ledger.Ledger as ledger
 use Rattle.std.proofs.sync.Mutex.TheSendSync as mutex
 use Rattle.blob_store.specs.contracts.shelf_files.Files as files
 use Rattle.byte_view.specs.declared.blob_infos.BlobInfo.{BlobInfo}
-use Rattle.change_undo.specs.declared.entries.Entry.{Entry}
+use Rattle.site_change.specs.declared.entries.Entry.{Entry}
 use Rattle.host_disk.specs.declared.disks.Disk as disks
 use Rattle.left_right.specs.declared.Absorb as absorb
 use Rattle.seen_lists.specs.declared.names.ListName as names
@@ -23,7 +23,7 @@ use Rattle.site_desk.specs.contracts.published.Published as publisheds
 use Rattle.std.specs.contracts.alloc.Global as globals
 use Rattle.std.specs.contracts.impls.GlobalAllocator.TheImpl.{ghosts}
 use Rattle.libc.specs.Heap.{chunk-Keyless}
-use Rattle.change_journal.specs.contracts.entries.journals.Journal as journals
+use Rattle.change_journal.specs.contracts.journals.Journal as journals
 use Rattle.site_desk.proofs.snaps.HostSnap.TheSendSync as snap
 use Rattle.site_desk.proofs.stocks.Stock.TheSendSync as stock
 use Rattle.site_desk.proofs.stocks.Tie.TheSendSync as tie

@@ -1,4 +1,4 @@
 pub mod FoundFiles
-pub mod Some
 pub mod LastLacking
+mod Standing
 pub mod Crossing

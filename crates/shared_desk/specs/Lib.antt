@@ -1,6 +1,7 @@
 -- what public clauses say
 pub mod FoundFiles
 pub mod NewDesks
+pub mod Stops
 pub mod Turns
 pub mod Uploads
 -- ---- what private functions say

@@ -6,13 +6,12 @@ use Rattle.host_names.specs.declared.names.SiteName.{SiteName}
 use Rattle.host_disk.specs.declared.disks.Disk.{Ghosts}
 use Rattle.site_state.specs.Deploys.{is_ready_draft, listed_at}
 use Rattle.site_state.specs.States.{draft_at, kept_at}
-use Rattle.site_change.specs.Changes.{IsWithin}
 use Rattle.site_change.specs.declared.commands.Command.TheVariants.{Publish}
-use Rattle.change_undo.specs.Logs.{Log}
+use Rattle.change_log.specs.Logs.{Log}
 use Rattle.site_desk.specs.Books.{Kept, state_of}
 use Rattle.shared_desk.specs.Turns.{IsCommit, IsMet}
-use Rattle.shared_desk.specs.declared.upload_errors.UploadError.{UploadError}
-use Rattle.shared_desk.specs.declared.upload_errors.UploadError.TheVariants.{Broken, NoSuchDeploy, NotListed, NotPublished}
+use Rattle.site_desk.specs.declared.upload_errors.UploadError.{UploadError}
+use Rattle.site_desk.specs.declared.upload_errors.UploadError.TheVariants.{Broken, NoSuchDeploy, NotListed, NotPublished}
 
 -- the digest at a path of a site's deploy, in the state of a book
 abbrev pub listed_in : {D : Type 0} → Kept D → SiteName → ℕ → List ℕ → Option (Option Digest)
@@ -30,19 +29,18 @@ IsJudged floor site n path kept (Err NoSuchDeploy) = IsMet floor kept × (kept.j
 IsJudged floor site n path kept (Err NotListed) = IsMet floor kept × (kept.journal.broken ≡ false) × (listed_in kept site n path ≡ Some None)
 IsJudged floor site n path kept (Err other) = ⊥
 
--- what its last turn does where these files are known: the deploy isn't ready, or it is, and its publishing is the next entry or not
-abbrev pub IsPublishing : {D : Type 0} → Ghosts D → ℕ → Contents → SiteName → ℕ → Kept D → Result (Option Log) (UploadError Log) → Kept D → Type 0
-IsPublishing disk floor files site n old (Ok None) new = IsMet floor old × IsWithin files old.known × (is_ready old site n ≡ false) × (new ≡ old)
-IsPublishing disk floor files site n old (Ok (Some receipt)) new =
-    IsCommit disk floor (Publish site n) old (Ok receipt) new × IsWithin files old.known × (is_ready old site n ≡ true)
-IsPublishing disk floor files site n old (Err (NotPublished why)) new =
-    IsCommit disk floor (Publish site n) old (Err why) new × IsWithin files old.known × (is_ready old site n ≡ true)
-IsPublishing disk floor files site n old (Err other) new = ⊥
+-- what its last turn does: the deploy isn't ready, or it is, and its publishing is the next entry or not
+abbrev pub IsPublishing : {D : Type 0} → Ghosts D → ℕ → SiteName → ℕ → Kept D → Result (Option Log) (UploadError Log) → Kept D → Type 0
+IsPublishing disk floor site n old (Ok None) new = IsMet floor old × (is_ready old site n ≡ false) × (new ≡ old)
+IsPublishing disk floor site n old (Ok (Some receipt)) new = IsCommit disk floor (Publish site n) old (Ok receipt) new × (is_ready old site n ≡ true)
+IsPublishing disk floor site n old (Err (NotPublished why)) new = IsCommit disk floor (Publish site n) old (Err why) new × (is_ready old site n ≡ true)
+IsPublishing disk floor site n old (Err other) new = ⊥
 
--- an upload had its first turn
-abbrev pub Judges : {D : Type 0} → Ghosts D → ℕ → SiteName → ℕ → List ℕ → Result Digest (UploadError Log) → Type 0
-Judges {D} disk floor site n path result = (kept : Kept D) × IsJudged floor site n path kept result
+-- an upload had its first turn, at a book of these entries
+abbrev pub Judges : {D : Type 0} → Ghosts D → ℕ → Log → SiteName → ℕ → List ℕ → Result Digest (UploadError Log) → Type 0
+Judges {D} disk floor log site n path result = (kept : Kept D) × IsJudged floor site n path kept result × (kept.journal.entries ≡ log)
 
--- an upload had its last turn
-abbrev pub Publishes : {D : Type 0} → Ghosts D → ℕ → Contents → SiteName → ℕ → Result (Option Log) (UploadError Log) → Type 0
-Publishes {D} disk floor files site n result = (old : Kept D) × (new : Kept D) × IsPublishing disk floor files site n old result new
+-- an upload had its last turn, at a book of these entries that knew these files
+abbrev pub Publishes : {D : Type 0} → Ghosts D → ℕ → Log → Contents → SiteName → ℕ → Result (Option Log) (UploadError Log) → Type 0
+Publishes {D} disk floor log files site n result =
+    (old : Kept D) × (new : Kept D) × IsPublishing disk floor site n old result new × (old.journal.entries ≡ log) × (old.known ≡ files)

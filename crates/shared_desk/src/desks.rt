@@ -1,18 +1,17 @@
 //! The desk.
 ghost use Rattle.std.specs.Prelude.{◌≡◌, ◌↔◌, ◌+◌, IfNone, IfSome, IsSome, MatchResult, OnSome, [], length, sum};
-ghost use Rattle.change_undo.specs.Logs.{last_number};
+ghost use Rattle.change_log.specs.Logs.{BeginsWith, last_number};
 ghost use Rattle.shared_desk.specs.Turns.{Commits, Undoes};
 
 use crate::closings::give_all_back;
 use crate::turns;
 use blob_store::Files;
 use byte_view::BlobInfo;
-use change_undo::Entry;
 use host_disk::Disk;
 use host_names::SiteName;
 use left_right::Absorb;
-use seen_lists::ListName;
-use site_change::Command;
+use seen_lists::{Front, ListName};
+use site_change::{Command, Entry};
 use site_desk::{Book, DeskError, DeskName, Notice, Seat, Stock};
 use std::alloc::Global;
 use std::marker::Model;
@@ -62,34 +61,40 @@ impl<
     T: Absorb<Notice<J>, State = [Entry; 0]> + Drop,
     R: Wait + Drop,
 > Desk<J, K, D, S, T, R> {
-    /// Commits a command as the next entry, from a seat: the entry is put into the journal, and then shown. Gives the receipt of it.
+    /// Commits a command as the next entry, from a seat: the entry is put into the journal, and then shown. Gives the receipt of it. A front is told the
+    /// entries by which it is judged: what it had seen was a beginning of them.
     pub fn commit(
         &self,
         rt: &impl Wait,
+        seen: &mut Front<Entry, J>,
         mine: &mut Seat<J>,
         command: Command,
     ) -> Result<Notice<J>, DeskError<Notice<J>>>
-        ensures turn { Commits D.Disk (last_number J.found + mine.old) command result }
+        ensures turn { Commits D.Disk (last_number J.found + mine.old) seen.new command result }
+        ensures seen { BeginsWith seen.new seen.old }
         ensures made { MatchResult result (λ _. mine.new ≡ mine.old + 1) (λ _. mine.new ≡ mine.old) }
     {
         let mut book = self.book.lock(rt);
         let mut stock = self.stock.lock(rt);
-        turns::commit(rt, &mut *book, &mut *stock, mine, command)
+        turns::commit(rt, &mut *book, &mut *stock, seen, mine, command)
     }
 
-    /// Undoes a change of this site by the next entry, from a seat: the entry is put into the journal, and then shown. Gives the receipt of it.
+    /// Undoes a change of this site by the next entry, from a seat: the entry is put into the journal, and then shown. Gives the receipt of it. A front is
+    /// told the entries by which it is judged.
     pub fn undo(
         &self,
         rt: &impl Wait,
+        seen: &mut Front<Entry, J>,
         mine: &mut Seat<J>,
         site: &SiteName,
         change: u64,
     ) -> Result<Notice<J>, DeskError<Notice<J>>>
-        ensures turn { Undoes D.Disk (last_number J.found + mine.old) site.now change result }
+        ensures turn { Undoes D.Disk (last_number J.found + mine.old) seen.new site.now change result }
+        ensures seen { BeginsWith seen.new seen.old }
         ensures made { MatchResult result (λ _. mine.new ≡ mine.old + 1) (λ _. mine.new ≡ mine.old) }
     {
         let mut book = self.book.lock(rt);
-        turns::undo(rt, &mut *book, mine, site, change)
+        turns::undo(rt, &mut *book, seen, mine, site, change)
     }
 
     /// Closes the desk if these are all its seats, and takes them. Answers how many entries there are: those that were found and those that were

@@ -3,16 +3,15 @@
 
 mod closings;
 mod desks;
+pub mod laws;
 mod listings;
 mod new_desks;
 mod openings;
 mod reading;
 mod showing;
 mod turns;
-mod upload_errors;
 mod uploading;
 
 pub use desks::Desk;
 pub use new_desks::NewDesk;
 pub use openings::{Opened, open};
-pub use upload_errors::UploadError;

@@ -2,8 +2,8 @@
 ghost use Rattle.std.specs.Prelude.{◌≡◌, ◌≤◌};
 
 use byte_view::BlobInfo;
-use change_undo::Entry;
 use seen_lists::NewList;
+use site_change::Entry;
 use std::marker::Model;
 use std::sync::Wait;
 use std::sync::ledger::Blank;

@@ -1,22 +1,23 @@
 //! Openings of desks.
 ghost use Rattle.std.specs.Prelude.{◌≡◌, ◌<◌, ◌≤◌, ◌^◌, IfErr, IfOk};
-ghost use Rattle.change_undo.specs.Logs.{last_number};
+ghost use Rattle.change_log.specs.Logs.{last_number};
 ghost use Rattle.change_undo.specs.Plans.{IsHistoryOver};
 ghost use Rattle.seen_lists.specs.Visits.{sees};
+ghost use Rattle.site_desk.specs.Snaps.{IsFromUploads};
 ghost use Rattle.shared_desk.specs.FoundFiles.{files_of};
 ghost use Rattle.shared_desk.specs.NewDesks.{AreNames};
 
 use crate::desks::Desk;
 use crate::new_desks::NewDesk;
 use crate::showing::{DeskShown, FirstPublished, publish_found};
-use blob_store::{BlobIndex, Files, Shelf};
+use blob_store::{BlobIndex, Blobs, Shelf};
 use byte_view::BlobInfo;
 use change_journal::Journal;
-use change_undo::{Entry, History};
+use change_undo::History;
 use found_host::Found;
 use host_disk::Disk;
 use seen_lists::{ListName, NewList, Visitor};
-use site_change::uploads_are_digested;
+use site_change::{Entry, uploads_are_digested};
 use site_desk::{Book, DeskName, HostSnap, Published, Seats, Stock, Tie};
 use std::alloc::{AllocError, Global};
 use std::sync::ledger::Blank;
@@ -31,6 +32,7 @@ pub type Opened<J, K, D, S, R> = (
 
 /// The snapshot of what a history is now.
 fn snap_of(alloc: Global, history: &History) -> Result<Arc<HostSnap>, AllocError>
+    requires { IsFromUploads history.now }
     ensures { IfOk result (λ snap. snap.value ≡ history.now) }
 {
     HostSnap::shared(alloc, history.copy()?)
@@ -98,36 +100,25 @@ fn seat_all<J: DeskName, R: Wait + Drop>(
     Ok((shown, places))
 }
 
-/// The journal, the files that are known, and those on the shelf, of what is found.
-fn parts_of<D: Disk + Drop, S: Shelf + Drop>(
-    found: Found<D, S>,
-) -> (Journal<D>, BlobIndex, Files<S>)
-    ensures journal { result.0.entries ≡ found.journal.entries }
-    ensures known { result.1 ≡ found.store.known }
-{
-    let (_, journal, blobs) = found.into_parts();
-    let (index, files) = blobs.into_parts();
-    (journal, index, files)
-}
-
 /// The desk of what is found, with what is published of it.
 fn desk_of<J: DeskName, K: ListName<BlobInfo>, D: Disk + Drop, S: Shelf + Drop, R: Wait + Drop>(
     alloc: Global,
     seats: u64,
     snap: Arc<HostSnap>,
-    found: Found<D, S>,
+    journal: Journal<D>,
+    blobs: Blobs<S>,
     uploads: NewList<BlobInfo>,
     published: Box<Published<J, DeskShown<J>, R>>,
 ) -> Desk<J, K, D, S, DeskShown<J>, R>
     requires seats { (1 ≤ seats) × (seats ≡ J.parts) }
     requires limit { snap.value.limit ≡ 1000000 }
-    requires entries { snap.value.entries ≡ found.journal.entries }
-    requires over { IsHistoryOver found.store.known snap.value }
+    requires entries { snap.value.entries ≡ journal.entries }
+    requires over { IsHistoryOver blobs.known snap.value }
     requires published { published.value ≡ snap.value.entries }
     requires book { uploads ≡ K.book }
-    requires files { K.found ≡ files_of found.store.known }
+    requires files { K.found ≡ files_of blobs.known }
 {
-    let (journal, index, files) = parts_of(found);
+    let (index, files) = blobs.into_parts();
     let stock: Stock<K> = stock_of(index, uploads);
     Desk {
         alloc,
@@ -154,6 +145,7 @@ fn prepare<J: DeskName, R: Wait + Drop>(
     requires entries { history.now.entries ≡ J.found }
     requires few { last_number J.found ≤ 1000000 }
     requires visitors { (0 < visitors) × (visitors ≤ 64) }
+    requires uploads { IsFromUploads history.now }
     ensures snap { IfOk result (λ made. made.0.value ≡ history.now) }
     ensures published { IfOk result (λ made. made.1.0.value ≡ J.found) }
     ensures visitor { IfOk result (λ made. made.1.1 ≡ sees J.found) }
@@ -188,12 +180,14 @@ pub fn open<J: DeskName, K: ListName<BlobInfo>, D: Disk + Drop, S: Shelf + Drop,
         entries,
         uploads,
     } = new;
-    match prepare(alloc, rt, found.history(), count, entries, seats, visitors) {
+    let (history, journal, blobs) = found.into_parts();
+    uploads_are_digested(&blobs);
+    match prepare(alloc, rt, &history, count, entries, seats, visitors) {
         Ok((snap, (published, visitor), places)) => Ok((
-            desk_of(alloc, seats, snap, found, uploads, published),
+            desk_of(alloc, seats, snap, journal, blobs, uploads, published),
             places,
             visitor,
         )),
-        Err(_) => Err(found),
+        Err(_) => Err(Found::of(history, journal, blobs)),
     }
 }

@@ -1,17 +1,18 @@
-//! What readers ask a desk. No call of these takes the lock of its book.
-ghost use Rattle.std.specs.Prelude.{IfOk, IsSome, OnErr};
-ghost use Rattle.byte_view.specs.Contents.{Contents};
+//! What readers ask a desk.
+ghost use Rattle.std.specs.Prelude.{◌≡◌, IfOk, IsSome, OnErr};
+ghost use Rattle.byte_view.specs.Contents.{AreDigested, Contents};
+ghost use Rattle.change_log.specs.Logs.{BeginsWith};
 ghost use Rattle.site_state.specs.Missing.{AreMissing, least_missing_of};
 
 use crate::desks::Desk;
 use blob_store::Files;
 use byte_view::BlobInfo;
-use change_undo::Entry;
 use host_disk::Disk;
 use host_names::Digest;
 use left_right::Absorb;
-use seen_lists::ListName;
-use site_desk::{DeskName, Notice};
+use seen_lists::{Front, ListName};
+use site_change::{Entry, uploads_are_digested};
+use site_desk::{DeskName, Notice, Tie};
 use site_state::{Listing, missing};
 use std::alloc::{AllocError, Global};
 use std::sync::{Mutex, Wait};
@@ -29,17 +30,32 @@ impl<
         &self.files
     }
 
-    /// The listed digests whose files aren't known by now, in their order, each once. The lock of the files that are known is held meanwhile, and no
-    /// other.
+    /// The listed digests whose files aren't known by now, in their order, each once, and what is known by now. The lock of the files that are known is
+    /// held meanwhile, and no other.
     pub fn missing(
         &self,
         rt: &impl Wait,
         alloc: Global,
         files: &Listing,
-    ) -> Result<Vec<Digest>, AllocError>
-        ensures lacking { IfOk result (λ digests. (known : Contents) × AreMissing known files.now.1 digests.items) }
-        ensures memory { OnErr result ((known : Contents) × IsSome (least_missing_of known files.now.1)) }
+    ) -> Result<(Vec<Digest>, Tie<K>), AllocError>
+        ensures lacking { IfOk result (λ told. AreMissing told.1 files.now.1 told.0.items) }
+        ensures digested { IfOk result (λ told. AreDigested told.1) }
+        ensures memory { OnErr result
+            ((known : Contents) × AreDigested known × IsSome (least_missing_of known files.now.1)) }
     {
-        missing(alloc, files, self.stock.lock(rt).index())
+        let stock = self.stock.lock(rt);
+        uploads_are_digested(stock.index());
+        let digests = missing(alloc, files, stock.index())?;
+        Ok((digests, stock.tie()))
+    }
+
+    /// The receipt of all entries, for somebody who has seen a front that isn't shown: it begins with that. The lock of the book is held meanwhile.
+    pub fn shown(&self, rt: &impl Wait, seen: &mut Front<Entry, J>) -> Result<Notice<J>, AllocError>
+        ensures receipt { IfOk result (λ receipt. receipt ≡ seen.new) }
+        ensures seen { BeginsWith seen.new seen.old }
+    {
+        let mut book = self.book.lock(rt);
+        book.tell(seen);
+        book.last().again()
     }
 }

@@ -1,12 +1,12 @@
 //! What is shown of a desk that is opened.
 ghost use Rattle.std.specs.Prelude.{◌≡◌, ◌<◌, ◌≤◌, ◌^◌, [], IfOk, OnOk};
-ghost use Rattle.change_undo.specs.Logs.{last_number};
+ghost use Rattle.change_log.specs.Logs.{last_number};
 ghost use Rattle.left_right.specs.Handles.{pending, published};
 ghost use Rattle.seen_lists.specs.Visits.{sees};
 
-use change_undo::Entry;
 use left_right::WriteHandle;
 use seen_lists::{Publisher, SeenList, Shown, Visitor};
+use site_change::Entry;
 use site_desk::{DeskName, HostSnap, Notice, Published};
 use std::alloc::{AllocError, Global};
 use std::sync::{Arc, Wait, ledger};

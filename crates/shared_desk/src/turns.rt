@@ -1,6 +1,6 @@
 //! Turns at a book, each while its lock is held.
 ghost use Rattle.std.specs.Prelude.{◌≡◌, ◌+◌, MatchOption, MatchResult};
-ghost use Rattle.change_undo.specs.Logs.{last_number};
+ghost use Rattle.change_log.specs.Logs.{BeginsWith, last_number};
 ghost use Rattle.shared_desk.specs.Turns.{IsCommit, IsMet, IsUndo};
 ghost use Rattle.shared_desk.specs.Uploads as spec;
 ghost use Rattle.shared_desk.specs.Uploads.{IsJudged, IsPublishing};
@@ -8,18 +8,16 @@ ghost use Rattle.site_change.specs.Changes.{IsWithin};
 ghost use Rattle.site_desk.specs.Books.{with_known};
 
 use crate::listings::is_ready;
-use crate::upload_errors::UploadError;
 use byte_view::BlobInfo;
-use change_undo::Entry;
 use host_disk::Disk;
 use host_names::{Digest, FilePath, SiteName};
 use left_right::Absorb;
-use seen_lists::ListName;
-use site_change::Command;
-use site_desk::{Book, DeskError, DeskName, Notice, Seat, Stock, Tie};
+use seen_lists::{Front, ListName};
+use site_change::{Command, Entry};
+use site_desk::{Book, DeskError, DeskName, Notice, Seat, Stock, Tie, UploadError};
 use std::sync::Wait;
 
-/// Learns of all uploads so far, and commits a command over them, from a seat.
+/// Learns of all uploads so far, and commits a command over them, from a seat. A front is told the entries that are there before.
 pub(crate) fn commit<
     J: DeskName,
     K: ListName<BlobInfo>,
@@ -30,21 +28,25 @@ pub(crate) fn commit<
     rt: &impl Wait,
     book: &mut Book<J, K, D, T, R>,
     stock: &mut Stock<K>,
+    seen: &mut Front<Entry, J>,
     mine: &mut Seat<J>,
     command: Command,
 ) -> Result<Notice<J>, DeskError<Notice<J>>>
     ensures turn { let met = with_known book.old stock.old in
         IsCommit D.Disk (last_number J.found + mine.old) command met result book.new }
+    ensures told { seen.new ≡ book.old.journal.entries }
+    ensures kept { BeginsWith seen.new seen.old }
     ensures same { stock.new ≡ stock.old }
     ensures made { MatchResult result (λ _. mine.new ≡ mine.old + 1) (λ _. mine.new ≡ mine.old) }
 {
     book.learn(stock);
+    book.tell(seen);
     book.audit(mine);
     let _history = book.latest();
     book.commit(rt, stock.index(), mine, command)
 }
 
-/// Undoes a change of a site, from a seat.
+/// Undoes a change of a site, from a seat. A front is told the entries that are there before.
 pub(crate) fn undo<
     J: DeskName,
     K: ListName<BlobInfo>,
@@ -54,19 +56,23 @@ pub(crate) fn undo<
 >(
     rt: &impl Wait,
     book: &mut Book<J, K, D, T, R>,
+    seen: &mut Front<Entry, J>,
     mine: &mut Seat<J>,
     site: &SiteName,
     change: u64,
 ) -> Result<Notice<J>, DeskError<Notice<J>>>
     ensures turn { IsUndo D.Disk (last_number J.found + mine.old) site.now change book.old result book.new }
+    ensures told { seen.new ≡ book.old.journal.entries }
+    ensures kept { BeginsWith seen.new seen.old }
     ensures made { MatchResult result (λ _. mine.new ≡ mine.old + 1) (λ _. mine.new ≡ mine.old) }
 {
+    book.tell(seen);
     book.audit(mine);
     let _history = book.latest();
     book.undo(rt, mine, site, change)
 }
 
-/// The digest that a deploy of a site lists at a path, if an upload may go on.
+/// The digest that a deploy of a site lists at a path, if an upload may go on. A front is told the entries by which that is so.
 pub(crate) fn judge<
     J: DeskName,
     K: ListName<BlobInfo>,
@@ -75,15 +81,19 @@ pub(crate) fn judge<
     R: Wait + Drop,
 >(
     book: &mut Book<J, K, D, T, R>,
+    seen: &mut Front<Entry, J>,
     mine: &mut Seat<J>,
     site: &SiteName,
     number: u64,
     path: &FilePath,
 ) -> Result<Digest, UploadError<Notice<J>>>
     ensures judged { IsJudged (last_number J.found + mine.old) site.now number path.now book.old result }
+    ensures told { seen.new ≡ book.old.journal.entries }
+    ensures kept { BeginsWith seen.new seen.old }
     ensures same { book.new ≡ book.old }
     ensures made { mine.new ≡ mine.old }
 {
+    book.tell(seen);
     book.audit(mine);
     let snap = book.latest();
     if book.is_broken() {
@@ -96,7 +106,7 @@ pub(crate) fn judge<
     }
 }
 
-/// Learns of all uploads so far, and says whether a deploy of a site is ready over them.
+/// Learns of all uploads so far, and says whether a deploy of a site is ready over them. Both are told: these files and all entries.
 fn learn_if_ready<
     J: DeskName,
     K: ListName<BlobInfo>,
@@ -106,13 +116,17 @@ fn learn_if_ready<
 >(
     book: &mut Book<J, K, D, T, R>,
     stock: &mut Stock<K>,
+    seen: &mut Front<Entry, J>,
     known: &mut Tie<K>,
     mine: &mut Seat<J>,
     site: &SiteName,
     number: u64,
 ) -> bool
     ensures met { IsMet (last_number J.found + mine.old) book.new }
-    ensures within { IsWithin known.old book.new.known }
+    ensures told { seen.new ≡ book.old.journal.entries }
+    ensures kept { BeginsWith seen.new seen.old }
+    ensures files { known.new ≡ stock.old }
+    ensures within { IsWithin known.old known.new }
     ensures ready { result ≡ spec.is_ready book.new site.now number }
     ensures same { stock.new ≡ stock.old }
     ensures learnt { book.new ≡ with_known book.old stock.old }
@@ -120,11 +134,13 @@ fn learn_if_ready<
 {
     stock.tell(known);
     book.learn(stock);
+    book.tell(seen);
     book.audit(mine);
     is_ready(book.latest().state(), stock.index(), site, number)
 }
 
-/// Learns of all uploads so far, and publishes a deploy of a site if it is ready over them, from a seat.
+/// Learns of all uploads so far, and publishes a deploy of a site if it is ready over them, from a seat. Both are told by which that is so: these files, and
+/// the entries that are there before.
 pub(crate) fn publish_if_ready<
     J: DeskName,
     K: ListName<BlobInfo>,
@@ -135,18 +151,23 @@ pub(crate) fn publish_if_ready<
     rt: &impl Wait,
     book: &mut Book<J, K, D, T, R>,
     stock: &mut Stock<K>,
+    seen: &mut Front<Entry, J>,
     known: &mut Tie<K>,
     mine: &mut Seat<J>,
     site: &SiteName,
     number: u64,
 ) -> Result<Option<Notice<J>>, UploadError<Notice<J>>>
-    ensures done { IsPublishing D.Disk (last_number J.found + mine.old) known.old site.now number
+    ensures done { IsPublishing D.Disk (last_number J.found + mine.old) site.now number
         (with_known book.old stock.old) result book.new }
+    ensures told { seen.new ≡ book.old.journal.entries }
+    ensures kept { BeginsWith seen.new seen.old }
+    ensures files { known.new ≡ stock.old }
+    ensures within { IsWithin known.old known.new }
     ensures made { MatchResult result
         (λ published. MatchOption published (mine.new ≡ mine.old) (λ _. mine.new ≡ mine.old + 1))
         (λ _. mine.new ≡ mine.old) }
 {
-    if !learn_if_ready(book, stock, known, mine, site, number) {
+    if !learn_if_ready(book, stock, seen, known, mine, site, number) {
         return Ok(None);
     }
     let site = site.copied();

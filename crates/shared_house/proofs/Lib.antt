@@ -1,5 +1,4 @@
 pub mod Fronts
-pub mod Turns
 pub mod Entering
 pub mod FileReplies
 pub mod Standing

@@ -1,5 +1,6 @@
 -- What running nodes answer.
-use Rattle.std.proofs.Common.{◌≡◌, inl, inr, ℕ, List, true, false, Some, None, Result, Ok, Err, cond, sym, subst}
+use Rattle.std.proofs.Common.{◌≡◌, ◌∙◌, inl, inr, ℕ, List, [], ◌∷◌, length, true, false, Some, None, Result, Ok, Err, cond, ap, sym, subst}
+use Rattle.std.proofs.lemmas.List.{length-append}
 use Rattle.std.specs.FinMap as map
 use Rattle.std.specs.Prelude.{nat_le}
 use Rattle.byte_view.specs.Contents.{Contents}
@@ -7,8 +8,8 @@ use Rattle.host_names.specs.declared.names.SiteName.{SiteName}
 use Rattle.site_change.specs.Changes.{run_from}
 use Rattle.site_change.specs.declared.refusals.ChangeRefusal.TheVariants.{HistoryFull}
 use Rattle.change_undo.specs.Histories.{change_refusal, undo_refusal}
-use Rattle.change_undo.specs.Logs.{BeginsWith, Log, last_number}
-use Rattle.change_undo.specs.declared.entries.Entry.TheVariants.{Change, Undo}
+use Rattle.change_log.specs.Logs.{BeginsWith, Log, last_number, next_number}
+use Rattle.site_change.specs.declared.entries.Entry.TheVariants.{Undo}
 use Rattle.change_undo.proofs.Live.{live_changes-undo}
 use Rattle.change_undo.proofs.Runs.{undo-leaves}
 use Rattle.http_wire.specs.Requests.{RequestParts}
@@ -22,51 +23,50 @@ use Rattle.host_answers.specs.Answers.{told_entry}
 use Rattle.host_answers.specs.Asking.{asked_for}
 use Rattle.host_answers.specs.Houses.{Seen}
 use Rattle.host_answers.specs.declared.stops.Stop.{Stop}
-use Rattle.host_answers.specs.declared.stops.Stop.TheVariants as stop
 use Rattle.host_answers.proofs.Growing as growing
 use Rattle.host_answers.proofs.Growing.{StaysBy}
-use Rattle.shared_house.specs.Entering.{IsJudged, reason_of_undo}
+use Rattle.site_desk.specs.declared.errors.DeskError.{DeskError}
+use Rattle.site_desk.specs.declared.errors.DeskError.TheVariants as desk
+use Rattle.shared_house.specs.Desks.{DeskCall, Enters}
+use Rattle.shared_house.specs.Entering.{IsEntryAnswer, IsJudged, learnt_of, reason_of_undo, told_of}
 use Rattle.shared_house.specs.Guests.{IsGuestAnswer}
-use Rattle.shared_house.specs.HouseLaws.{enters_known, goes_on, same_known, stays, takes_known}
+use Rattle.shared_house.specs.HouseLaws.{commits_known, goes_on, same_known, stays, takes_known, undoes_known}
 use Rattle.shared_house.specs.Running.{IsReadReply, IsUndoReply, LeavesOut}
 use Rattle.shared_house.specs.Seeing.{by_front}
-use Rattle.shared_house.specs.Shared.{IsSharedAnswer, RespondsAs, ServesAs, UndoesAs, calls_over, fails, gives}
+use Rattle.shared_house.specs.Shared.{IsSharedAnswer, RespondsAs, UndoesAs, calls_over, fails, gives}
 use Rattle.shared_house.proofs.FileReplies.{file_reply}
 
 -- ---- what is known
 
-known_over : (seen : Seen) → StaysBy (λ (old new : Log). BeginsWith new old) (calls_over by_front seen) (gives by_front) (fails by_front)
-known_over seen = record {
-  stays = stays;
-  goes_on = goes_on;
-  gave_grows = λ old hold new. same_known old new;
-  failed_grows = λ old file first last why new. same_known old new;
-  commits = λ old command done new. enters_known (Change command) _ old done new;
-  undoes = λ old site change done new. enters_known (Undo site change) _ old done new;
-  uploads = λ old site n path bytes done new. takes_known old site n path bytes done new;
-}
-
 looked : (old shown mid : Log) → by_front.looks old shown mid → BeginsWith mid old
 looked old shown mid looks = subst (λ (l : Log). BeginsWith l old) (sym looks.1) looks.0
 
-responds_known : (old : Log) (parts : RequestParts) (body : List ℕ) (asking : Result Ask Refusal) (answer : Answer) (new : Log)
-    → RespondsAs by_front old parts body asking answer new → BeginsWith new old
-responds_known old parts body (Err why) answer new (tells, is) = same_known old new is
-responds_known old parts body (Ok asked) answer new (inl (seen, mid, looks, run, is)) =
-    goes_on old mid new (looked old seen.entries mid looks)
-    (growing.does (λ (a b : Log). BeginsWith b a) (calls_over by_front seen) (gives by_front) (fails by_front) (known_over seen) answer parts body mid asked new is)
-responds_known old parts body (Ok asked) answer new (inr (told, is)) = same_known old new is
+module _ (did : DeskCall → Type 0) where
+  known_over : (seen : Seen) → StaysBy (λ (old new : Log). BeginsWith new old) (calls_over did by_front seen) (gives did by_front) (fails did by_front)
+  known_over seen = record {
+    stays = stays;
+    goes_on = goes_on;
+    gave_grows = λ old hold new. same_known old new;
+    failed_grows = λ old file first last why new. same_known old new;
+    commits = λ old command done new. commits_known did old command done new;
+    undoes = λ old site change done new. undoes_known did old site change done new;
+    uploads = λ old site n path bytes done new. takes_known did old site n path bytes done new;
+  }
 
-answers_known : (old : Log) (parts : RequestParts) (body : List ℕ) (answer : Answer) (new : Log) → IsSharedAnswer by_front old parts body answer new → BeginsWith new old
-answers_known old parts body answer new (inl is) = responds_known old parts body (asked_for parts body) answer new is
-answers_known old parts body answer new (inr (takes, (tells, is))) = same_known old new is
+  responds_known : (old : Log) (parts : RequestParts) (body : List ℕ) (asking : Result Ask Refusal) (answer : Answer) (new : Log)
+      → RespondsAs did by_front old parts body asking answer new → BeginsWith new old
+  responds_known old parts body (Err why) answer new (tells, is) = same_known old new is
+  responds_known old parts body (Ok asked) answer new (inl (seen, mid, looks, run, is)) =
+      goes_on old mid new (looked old seen.entries mid looks)
+      (growing.does (λ (a b : Log). BeginsWith b a) (calls_over did by_front seen) (gives did by_front) (fails did by_front) (known_over seen) answer parts body mid asked new is)
+  responds_known old parts body (Ok asked) answer new (inr (told, is)) = same_known old new is
 
-pub serves_known : (old : Log) (parts : RequestParts) (body : List ℕ) (answer : Answer) (new : Log) → ServesAs by_front old parts body answer new → BeginsWith new old
-serves_known old parts body answer new (inl (mid, shown, looks, is)) = goes_on old mid new (looked old shown mid looks) (answers_known mid parts body answer new is)
-serves_known old parts body answer new (inr (told, is)) = same_known old new is
+  answers_known : (old : Log) (parts : RequestParts) (body : List ℕ) (answer : Answer) (new : Log) → IsSharedAnswer did by_front old parts body answer new → BeginsWith new old
+  answers_known old parts body answer new (inl is) = responds_known old parts body (asked_for parts body) answer new is
+  answers_known old parts body answer new (inr (takes, (tells, is))) = same_known old new is
 
-pub later : (old new : Log) (parts : RequestParts) (body : List ℕ) (answer : Answer) → IsGuestAnswer old parts body answer new → BeginsWith new old
-later old new parts body answer (start, begins, is) = goes_on old start new begins (serves_known start parts body answer new is)
+  pub later : (old new : Log) (parts : RequestParts) (body : List ℕ) (answer : Answer) → IsGuestAnswer did old parts body answer new → BeginsWith new old
+  later old new parts body answer (start, begins, is) = goes_on old start new begins (answers_known start parts body answer new is)
 
 -- ---- undos
 
@@ -76,50 +76,68 @@ allowed uploads limit log site k none =
     [ true ↦ λ e. absurd (cc e) | false ↦ λ e. e ] none
 
 leaves_out : (site : SiteName) (k : ℕ) (before : Log) → IsJudged (reason_of_undo site k) before None → LeavesOut site k before
-leaves_out site k before judged =
-    let left = undo-leaves judged.uploads before site k judged.legal (allowed judged.uploads 1000000 before site k judged.first) in
+leaves_out site k before (uploads, state, over, first) =
+    let left = undo-leaves uploads before site k over.legal (allowed uploads 1000000 before site k first) in
     record {
-      uploads = judged.uploads;
+      uploads = uploads;
       state = left.0;
-      legal = left.2;
-      now = left.1;
-      without_it = subst (λ (cs : _). run_from judged.uploads map.empty cs ≡ Some left.0) (live_changes-undo before site k) left.1;
+      runs = record { digested = over.digested; legal = left.2; ran = left.1 };
+      without_it = subst (λ (cs : _). run_from uploads map.empty cs ≡ Some left.0) (live_changes-undo before site k) left.1;
     }
 
-undoes : (site : SiteName) (k : ℕ) (old : Log) (done : Result ℕ Stop) (answer : Answer) (new : Log) → UndoesAs by_front old site k done new → Tells (told_entry done) answer
-    → IsUndoReply site k answer new
-undoes site k old (Ok number) answer new (before, judged, is, learnt) tells =
-    inl (before, leaves_out site k before judged, subst (λ (n : ℕ). Tells (told.Entered n) answer) is tells, learnt.1)
-undoes site k old (Err (stop.Refused why)) answer new (log, judged, learnt) tells = inr (inl (log, why, judged, tells, learnt.1))
-undoes site k old (Err stop.OutOfMemory) answer new is tells = inr (inr (inl tells))
-undoes site k old (Err stop.Device) answer new is tells = inr (inr (inr (inl tells)))
-undoes site k old (Err stop.Broken) answer new is tells = inr (inr (inr (inr tells)))
+module _ (did : DeskCall → Type 0) (site : SiteName) (k : ℕ) (old : Log) (answer : Answer) (new : Log) where
+  -- by what the desk answers, at a log that begins with what was seen
+  by_answer : (log : Log) (made : Result Log (DeskError Log)) → BeginsWith log old → did (Enters (Undo site k) log made)
+      → IsEntryAnswer (Undo site k) (reason_of_undo site k) log made → Tells (told_entry (told_of made)) answer
+      → by_front.learns old (learnt_of log made) new → IsUndoReply did site k old answer new
+  by_answer log (Ok receipt) later asked (judged, is) tells learnt =
+      let next : length receipt ≡ next_number log = ap length is ∙ length-append log (Undo site k ∷ []) in inl (
+        log,
+        later,
+        leaves_out site k log judged,
+        subst (λ (n : ℕ). Tells (told.Entered n) answer) next tells,
+        subst (λ (l : Log). BeginsWith new l) is learnt.1,
+      )
+  by_answer log (Err (desk.Refused why seen)) later asked (judged, is) tells learnt = inr (inl (log, why, later, judged, tells, learnt.1))
+  by_answer log (Err (desk.NoReceipt why)) later asked is tells learnt = inr (inr (inl tells))
+  by_answer log (Err desk.OutOfMemory) later asked is tells learnt = inr (inr (inl tells))
+  by_answer log (Err desk.Device) later asked is tells learnt = inr (inr (inr (inl (log, later, asked, tells))))
+  by_answer log (Err desk.Broken) later asked is tells learnt = inr (inr (inr (inr (log, later, asked, tells))))
 
-undo_answers : (site : SiteName) (k : ℕ) (old : Log) (parts : RequestParts) (body : List ℕ) (answer : Answer) (new : Log)
-    → RespondsAs by_front old parts body (Ok (ask.Undo site k)) answer new → IsUndoReply site k answer new
-undo_answers site k old parts body answer new (inl (seen, mid, looks, run, (done, is, tells))) = undoes site k mid done answer new is tells
-undo_answers site k old parts body answer new (inr (is, same)) = inr (inr (inl (inl is)))
+  undoes : (done : Result ℕ Stop) → UndoesAs did by_front old site k done new → Tells (told_entry done) answer → IsUndoReply did site k old answer new
+  undoes done (log, made, later, asked, is, same, learnt) tells =
+      by_answer log made later asked is (subst (λ (d : Result ℕ Stop). Tells (told_entry d) answer) same tells) learnt
 
-undo_shared : (old new : Log) (parts : RequestParts) (body : List ℕ) (answer : Answer) (site : SiteName) (k : ℕ) → asked_for parts body ≡ Ok (ask.Undo site k)
-    → IsSharedAnswer by_front old parts body answer new → IsUndoReply site k answer new
-undo_shared old new parts body answer site k asks (inl is) =
-    undo_answers site k old parts body answer new (subst (λ (r : Result Ask Refusal). RespondsAs by_front old parts body r answer new) asks is)
-undo_shared old new parts body answer site k asks (inr (takes, (tells, is))) = inr (inr (inl tells))
+module _ (did : DeskCall → Type 0) (old : Log) (answer : Answer) (new : Log) (parts : RequestParts) (body : List ℕ) where
+  -- a house that begins with a longer log
+  undone_later : (site : SiteName) (k : ℕ) (start : Log) → BeginsWith start old → IsUndoReply did site k start answer new → IsUndoReply did site k old answer new
+  undone_later site k start begins (inl (before, later, leaves, tells, seen)) = inl (before, goes_on old start before begins later, leaves, tells, seen)
+  undone_later site k start begins (inr (inl (log, why, later, judged, tells, seen))) = inr (inl (log, why, goes_on old start log begins later, judged, tells, seen))
+  undone_later site k start begins (inr (inr (inl tells))) = inr (inr (inl tells))
+  undone_later site k start begins (inr (inr (inr (inl (log, later, asked, tells))))) = inr (inr (inr (inl (log, goes_on old start log begins later, asked, tells))))
+  undone_later site k start begins (inr (inr (inr (inr (log, later, asked, tells))))) = inr (inr (inr (inr (log, goes_on old start log begins later, asked, tells))))
 
-pub undo_reply : (old new : Log) (parts : RequestParts) (body : List ℕ) (answer : Answer) (site : SiteName) (k : ℕ) → asked_for parts body ≡ Ok (ask.Undo site k)
-    → IsGuestAnswer old parts body answer new → IsUndoReply site k answer new
-undo_reply old new parts body answer site k asks (start, begins, inl (mid, shown, looks, is)) = undo_shared mid new parts body answer site k asks is
-undo_reply old new parts body answer site k asks (start, begins, inr (inl is, same)) = inr (inr (inr (inr (inl is))))
-undo_reply old new parts body answer site k asks (start, begins, inr (inr is, same)) = inr (inr (inl (inl is)))
+  undo_answers : (site : SiteName) (k : ℕ) → RespondsAs did by_front old parts body (Ok (ask.Undo site k)) answer new → IsUndoReply did site k old answer new
+  undo_answers site k (inl (seen, mid, looks, run, (done, is, tells))) =
+      undone_later site k mid (looked old seen.entries mid looks) (undoes did site k mid answer new done is tells)
+  undo_answers site k (inr (is, same)) = inr (inr (inl (inl is)))
+
+  undo_shared : (site : SiteName) (k : ℕ) → asked_for parts body ≡ Ok (ask.Undo site k) → IsSharedAnswer did by_front old parts body answer new
+      → IsUndoReply did site k old answer new
+  undo_shared site k asks (inl is) = undo_answers site k (subst (λ (r : Result Ask Refusal). RespondsAs did by_front old parts body r answer new) asks is)
+  undo_shared site k asks (inr (takes, (tells, is))) = inr (inr (inl tells))
+
+pub undo_reply : (did : DeskCall → Type 0) (old new : Log) (parts : RequestParts) (body : List ℕ) (answer : Answer) (site : SiteName) (k : ℕ)
+    → asked_for parts body ≡ Ok (ask.Undo site k) → IsGuestAnswer did old parts body answer new → IsUndoReply did site k old answer new
+undo_reply did old new parts body answer site k asks (start, begins, is) =
+    undone_later did old answer new parts body site k start begins (undo_shared did start answer new parts body site k asks is)
 
 -- ---- reads
 
-pub read_reply : (old new : Log) (parts : RequestParts) (body : List ℕ) (answer : Answer) (site : SiteName) (version : Version) (path : List ℕ)
-    → asked_for parts body ≡ Ok (ask.Read site version path) → IsGuestAnswer old parts body answer new → IsReadReply old parts site version path answer new
-read_reply old new parts body answer site version path asks (start, begins, inl (mid, shown, looks, is)) =
-    elim (file_reply by_front mid new parts body site version path answer asks is) as (λ r. IsReadReply old parts site version path answer new) [
-      | inl over ↦ inl (over.0, goes_on old mid over.0.entries (goes_on old start mid begins (looked start shown mid looks)) over.1.0, over.1.1, over.2, over.3)
-      | inr none ↦ inr (inl (inl none.0))
+pub read_reply : (did : DeskCall → Type 0) (old new : Log) (parts : RequestParts) (body : List ℕ) (answer : Answer) (site : SiteName) (version : Version) (path : List ℕ)
+    → asked_for parts body ≡ Ok (ask.Read site version path) → IsGuestAnswer did old parts body answer new → IsReadReply old parts site version path answer new
+read_reply did old new parts body answer site version path asks (start, begins, is) =
+    elim (file_reply did by_front start new parts body site version path answer asks is) as (λ r. IsReadReply old parts site version path answer new) [
+      | inl over ↦ inl (over.0, goes_on old start over.0.entries begins over.1.0, over.1.1, over.2, over.3)
+      | inr none ↦ inr (inl none.0)
     ]
-read_reply old new parts body answer site version path asks (start, begins, inr (inl is, same)) = inr (inr (inr (inl is)))
-read_reply old new parts body answer site version path asks (start, begins, inr (inr is, same)) = inr (inl (inl is))

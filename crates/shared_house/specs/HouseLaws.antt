@@ -1,11 +1,11 @@
 -- What the calls of a house answer together whose history others change.
-use Rattle.std.proofs.Common.{◌≡◌, inl, inr, ℕ, List, [], ◌++◌, true, Option, Some, None, Result, Ok, Err, refl, sym, ap, subst, ◌∙◌, append-nil}
+use Rattle.std.proofs.Common.{◌≡◌, inl, inr, ℕ, List, [], ◌++◌, true, Result, Ok, Err, refl, sym, ap, subst, ◌∙◌, append-nil}
 use Rattle.std.proofs.lemmas.List.{append_assoc}
 use Rattle.std.specs.declared.alloc.AllocError.{AllocError}
-use Rattle.change_undo.specs.Logs.{BeginsWith, Log}
-use Rattle.change_undo.specs.declared.entries.Entry.{Entry}
-use Rattle.change_undo.specs.declared.entries.Entry.TheVariants.{Change, Undo}
-use Rattle.site_change.specs.declared.commands.Command.TheVariants.{Publish}
+use Rattle.change_log.specs.Logs.{BeginsWith, Log}
+use Rattle.site_change.specs.declared.entries.Entry.{Entry}
+use Rattle.site_change.specs.declared.commands.Command.{Command}
+use Rattle.site_change.specs.declared.entries.Entry.TheVariants.{Change, Undo}
 use Rattle.http_wire.specs.Requests.{RequestParts}
 use Rattle.host_names.specs.declared.names.SiteName.{SiteName}
 use Rattle.host_api.specs.declared.bodies.Ask.{Ask}
@@ -16,44 +16,43 @@ use Rattle.host_replies.specs.Replies.{Answer, is_head}
 use Rattle.host_answers.specs.Answers.{AnswersBy, CarriesOut, DoesBy}
 use Rattle.host_answers.specs.Asking.{asked_for}
 use Rattle.host_answers.specs.declared.stops.Stop.{Stop}
-use Rattle.host_answers.specs.declared.stops.Stop.TheVariants as stop
 use Rattle.host_answers.specs.declared.uploads.Uploaded.{Uploaded}
 use Rattle.host_answers.proofs.Growing as growing
 use Rattle.host_answers.proofs.Growing.{StaysBy}
 use Rattle.host_answers.proofs.Seen.{does_as}
 use Rattle.host_answers.proofs.Withheld as withheld
+use Rattle.shared_house.specs.Desks.{DeskCall}
 use Rattle.shared_house.specs.Entering.{Reason}
 use Rattle.shared_house.specs.Houses.{calls_of, failed_at, gave_at, shown}
 use Rattle.shared_house.specs.Seeing.{Seeing, by_front}
-use Rattle.shared_house.specs.Shared.{EntersAs, IsSharedAnswer, PublishesAs, RespondsAs, ServesAs, TakesAs, calls_over, fails, gives}
+use Rattle.shared_house.specs.Shared.{CommitsAs, EntersAs, IsSharedAnswer, RespondsAs, TakesAs, UndoesAs, calls_over, fails, gives}
 use Rattle.shared_house.specs.Sights.{Sight}
 
 -- ---- what is answered
 
-module _ (parts : RequestParts) (body : List ℕ) (answer : Answer) where
-  does : (mid new : Sight) (asked : Ask) → DoesBy calls_of gave_at failed_at mid parts body asked answer new
-      → DoesBy (calls_over by_front (shown mid)) (gives by_front) (fails by_front) mid.known parts body asked answer new.known
+module _ (did : DeskCall → Type 0) (parts : RequestParts) (body : List ℕ) (answer : Answer) where
+  does : (mid new : Sight) (asked : Ask) → DoesBy (calls_of did) gave_at failed_at mid parts body asked answer new
+      → DoesBy (calls_over did by_front (shown mid)) (gives did by_front) (fails did by_front) mid.known parts body asked answer new.known
   does mid new asked is =
-      does_as (λ (h : Sight). h.known) calls_of gave_at failed_at (calls_over by_front (shown mid)) (gives by_front) (fails by_front)
+      does_as (λ (h : Sight). h.known) (calls_of did) gave_at failed_at (calls_over did by_front (shown mid)) (gives did by_front) (fails did by_front)
       (record {
         misses = λ house files required is. is;
         commits = λ old command done next is. is;
         undoes = λ old site change done next is. is;
         uploads = λ old site n path bytes done next is. is;
       })
-      (record { gave_is = λ old hold next is. is; failed_is = λ old file first last why next is. is })
-      parts body answer mid new refl asked is
+      (record { gave_is = λ old hold next is. is; failed_is = λ old file first last why next is. is }) parts body answer mid new refl asked is
 
-  responds : (old new : Sight) (asking : Result Ask Refusal) → CarriesOut calls_of gave_at failed_at old parts body asking answer new
-      → RespondsAs by_front old.known parts body asking answer new.known
+  responds : (old new : Sight) (asking : Result Ask Refusal) → CarriesOut (calls_of did) gave_at failed_at old parts body asking answer new
+      → RespondsAs did by_front old.known parts body asking answer new.known
   responds old new (Err why) (is, same) = (is, ap (λ (h : Sight). h.known) same)
   responds old new (Ok asked) (inl (mid, looks, is)) = inl (shown mid, mid.known, looks.0, looks.1, does mid new asked is)
   responds old new (Ok asked) (inr (why, looks, is)) = inr (is, looks)
 
-pub told : (old new : Sight) (parts : RequestParts) (body : List ℕ) (answer : Answer)
-    → AnswersBy calls_of gave_at failed_at old parts body answer new → IsSharedAnswer by_front old.known parts body answer new.known
-told old new parts body answer (inl is) = inl (responds parts body answer old new (asked_for parts body) is)
-told old new parts body answer (inr (takes, only)) = inr (takes, (only.0, ap (λ (h : Sight). h.known) only.1))
+pub told : (did : DeskCall → Type 0) (old new : Sight) (parts : RequestParts) (body : List ℕ) (answer : Answer)
+    → AnswersBy (calls_of did) gave_at failed_at old parts body answer new → IsSharedAnswer did by_front old.known parts body answer new.known
+told did old new parts body answer (inl is) = inl (responds did parts body answer old new (asked_for parts body) is)
+told did old new parts body answer (inr (takes, only)) = inr (takes, (only.0, ap (λ (h : Sight). h.known) only.1))
 
 -- ---- what is known
 
@@ -66,59 +65,51 @@ goes_on first mid last a b = (a.0 ++ b.0, b.1 ∙ ap (λ l. l ++ b.0) a.1 ∙ ap
 pub same_known : (old new : Log) → new ≡ old → BeginsWith new old
 same_known old new is = subst (λ (l : Log). BeginsWith l old) (sym is) (stays old)
 
-pub enters_known : (entry : Entry) (reason : Reason) (old : Log) (done : Result ℕ Stop) (new : Log) → EntersAs by_front entry reason old done new → BeginsWith new old
-enters_known entry reason old (Ok number) new (before, judged, is, learnt) = learnt.0
-enters_known entry reason old (Err (stop.Refused why)) new (log, judged, learnt) = learnt.0
-enters_known entry reason old (Err stop.Broken) new same = same_known old new same
-enters_known entry reason old (Err stop.OutOfMemory) new (inl same) = same_known old new same
-enters_known entry reason old (Err stop.OutOfMemory) new (inr (number, (before, judged, is, learnt))) = learnt.0
-enters_known entry reason old (Err stop.Device) new same = same_known old new same
+module _ (did : DeskCall → Type 0) where
+  pub enters_known : (entry : Entry) (reason : Reason) (old : Log) (done : Result ℕ Stop) (new : Log) → EntersAs did by_front entry reason old done new → BeginsWith new old
+  enters_known entry reason old done new (log, answer, later, asked, is, tells, learnt) = learnt.0
 
-published_known : (old : Log) (site : SiteName) (n : ℕ) (bytes : List ℕ) (published : Option ℕ) (new : Log) → PublishesAs by_front old site n bytes published new → BeginsWith new old
-published_known old site n bytes None new (unready, same) = same_known old new same
-published_known old site n bytes (Some number) new (before, judged, is, learnt) = learnt.0
+  pub commits_known : (old : Log) (command : Command) (done : Result ℕ Stop) (new : Log) → CommitsAs did by_front old command done new → BeginsWith new old
+  commits_known old command done new (inl is) = enters_known (Change command) _ old done new is
+  commits_known old command done new (inr (tells, (number, is))) = enters_known (Change command) _ old (Ok number) new is
 
-pub takes_known : (old : Log) (site : SiteName) (n : ℕ) (path bytes : List ℕ) (done : Result Uploaded Refusal) (new : Log) → TakesAs by_front old site n path bytes done new
-    → BeginsWith new old
-takes_known old site n path bytes (Ok done) new (digest, lists, published) = published_known old site n bytes done.published new published
-takes_known old site n path bytes (Err why) new (inl (not_taken, same)) = same_known old new same
-takes_known old site n path bytes (Err why) new (inr (lists, (stopped, commits, is))) = enters_known (Change (Publish site n)) _ old (Err stopped) new commits
+  pub undoes_known : (old : Log) (site : SiteName) (change : ℕ) (done : Result ℕ Stop) (new : Log) → UndoesAs did by_front old site change done new → BeginsWith new old
+  undoes_known old site change done new is = enters_known (Undo site change) _ old done new is
 
-looks_known : (old : Sight) (done : Result (Unit {0}) AllocError) (new : Sight) → calls_of.looks old done new → BeginsWith new.known old.known
-looks_known old (Ok done) new looks = subst (λ (l : Log). BeginsWith l old.known) (sym looks.0.1) looks.0.0
-looks_known old (Err why) new looks = same_known old.known new.known looks
+  pub takes_known : (old : Log) (site : SiteName) (n : ℕ) (path bytes : List ℕ) (done : Result Uploaded Refusal) (new : Log)
+      → TakesAs did by_front old site n path bytes done new → BeginsWith new old
+  takes_known old site n path bytes done new (first, last, answer, later, more, asked, is, tells, learnt) = learnt.0
 
-known : StaysBy (λ (old new : Sight). BeginsWith new.known old.known) calls_of gave_at failed_at
-known = record {
-  stays = λ house. stays house.known;
-  goes_on = λ first mid last. goes_on first.known mid.known last.known;
-  gave_grows = λ old hold new. same_known old.known new.known;
-  failed_grows = λ old file first last why new. same_known old.known new.known;
-  commits = λ old command done new. enters_known (Change command) _ old.known done new.known;
-  undoes = λ old site change done new. enters_known (Undo site change) _ old.known done new.known;
-  uploads = λ old site n path bytes done new. takes_known old.known site n path bytes done new.known;
-}
+  looks_known : (old : Sight) (done : Result (Unit {0}) AllocError) (new : Sight) → (calls_of did).looks old done new → BeginsWith new.known old.known
+  looks_known old (Ok done) new looks = subst (λ (l : Log). BeginsWith l old.known) (sym looks.0.1) looks.0.0
+  looks_known old (Err why) new looks = same_known old.known new.known looks
 
-pub grew : (old new : Sight) (parts : RequestParts) (body : List ℕ) (answer : Answer) → AnswersBy calls_of gave_at failed_at old parts body answer new
-    → BeginsWith new.known old.known
-grew old new parts body answer is =
-    growing.answers_grow (λ (a b : Sight). BeginsWith b.known a.known) calls_of gave_at failed_at known answer looks_known parts body old new is
+  known : StaysBy (λ (old new : Sight). BeginsWith new.known old.known) (calls_of did) gave_at failed_at
+  known = record {
+    stays = λ house. stays house.known;
+    goes_on = λ first mid last. goes_on first.known mid.known last.known;
+    gave_grows = λ old hold new. same_known old.known new.known;
+    failed_grows = λ old file first last why new. same_known old.known new.known;
+    commits = λ old command done new. commits_known old.known command done new.known;
+    undoes = λ old site change done new. undoes_known old.known site change done new.known;
+    uploads = λ old site n path bytes done new. takes_known old.known site n path bytes done new.known;
+  }
+
+  pub grew : (old new : Sight) (parts : RequestParts) (body : List ℕ) (answer : Answer) → AnswersBy (calls_of did) gave_at failed_at old parts body answer new
+      → BeginsWith new.known old.known
+  grew old new parts body answer is =
+      growing.answers_grow (λ (a b : Sight). BeginsWith b.known a.known) (calls_of did) gave_at failed_at known answer looks_known parts body old new is
 
 -- ---- only to HEAD is a body told by its length alone
 
-module _ {K : Type 0} (sees : Seeing K) (answer : Answer) (held : answer.withheld ≡ true) (old new : K) (parts : RequestParts) (body : List ℕ) where
-  responds_withheld : (asking : Result Ask Refusal) → RespondsAs sees old parts body asking answer new → is_head parts ≡ true
+module _ {K : Type 0} (did : DeskCall → Type 0) (sees : Seeing K) (answer : Answer) (held : answer.withheld ≡ true) (old new : K) (parts : RequestParts) (body : List ℕ) where
+  responds_withheld : (asking : Result Ask Refusal) → RespondsAs did sees old parts body asking answer new → is_head parts ≡ true
   responds_withheld (Err why) (is, same) = absurd (withheld.tells answer held (Refused why) is)
-  responds_withheld (Ok asked) (inl (seen, mid, looks, run, is)) = withheld.does answer held (calls_over sees seen) (gives sees) (fails sees) parts body new mid asked is
+  responds_withheld (Ok asked) (inl (seen, mid, looks, run, is)) =
+      withheld.does answer held (calls_over did sees seen) (gives did sees) (fails did sees) parts body new mid asked is
   responds_withheld (Ok asked) (inr (is, same)) = absurd (withheld.whole answer held _ is refl)
 
-pub withheld_to_head : {K : Type 0} (sees : Seeing K) (old : K) (parts : RequestParts) (body : List ℕ) (answer : Answer) (new : K) → IsSharedAnswer sees old parts body answer new
-    → answer.withheld ≡ true → is_head parts ≡ true
-withheld_to_head sees old parts body answer new (inl is) held = responds_withheld sees answer held old new parts body (asked_for parts body) is
-withheld_to_head sees old parts body answer new (inr (takes, only)) held = absurd (withheld.tells answer held (Refused OutOfMemory) only.0)
-
-pub served_withheld_to_head : {K : Type 0} (sees : Seeing K) (old : K) (parts : RequestParts) (body : List ℕ) (answer : Answer) (new : K) → ServesAs sees old parts body answer new
-    → answer.withheld ≡ true → is_head parts ≡ true
-served_withheld_to_head sees old parts body answer new (inl (mid, shown, looks, is)) held = withheld_to_head sees mid parts body answer new is held
-served_withheld_to_head sees old parts body answer new (inr (inl is, same)) held = absurd (withheld.whole answer held _ is refl)
-served_withheld_to_head sees old parts body answer new (inr (inr is, same)) held = absurd (withheld.whole answer held _ is refl)
+pub withheld_to_head : {K : Type 0} (did : DeskCall → Type 0) (sees : Seeing K) (old : K) (parts : RequestParts) (body : List ℕ) (answer : Answer) (new : K)
+    → IsSharedAnswer did sees old parts body answer new → answer.withheld ≡ true → is_head parts ≡ true
+withheld_to_head did sees old parts body answer new (inl is) held = responds_withheld did sees answer held old new parts body (asked_for parts body) is
+withheld_to_head did sees old parts body answer new (inr (takes, only)) held = absurd (withheld.tells answer held (Refused OutOfMemory) only.0)

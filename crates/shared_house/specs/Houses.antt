@@ -2,8 +2,9 @@
 use Rattle.std.specs.Prelude.{◌≡◌, Result, Ok, Err}
 use Rattle.std.specs.declared.alloc.AllocError.{AllocError}
 use Rattle.host_answers.specs.Houses.{Calls, Failed, Gave, Seen}
+use Rattle.shared_house.specs.Desks.{DeskCall}
 use Rattle.shared_house.specs.Seeing.{by_front}
-use Rattle.shared_house.specs.Shared.{CommitsAs, IsLegalRun, LacksAs, TakesAs, UndoesAs, fails, gives}
+use Rattle.shared_house.specs.Shared.{CommitsAs, IsLegalRun, LacksAs, TakesAs, UndoesAs}
 use Rattle.shared_house.specs.Sights.{Sight}
 
 -- what it shows
@@ -15,18 +16,20 @@ abbrev pub LooksAt : Sight → Result (Unit {0}) AllocError → Sight → Type 0
 LooksAt house (Ok done) next = by_front.looks house.known (shown next).entries next.known × IsLegalRun (shown next)
 LooksAt house (Err why) next = next.known ≡ house.known
 
+-- nothing is learnt where files are held
 abbrev pub gave_at : Gave Sight
-gave_at old hold new = gives by_front old.known hold new.known
+gave_at old hold new = new.known ≡ old.known
 
 abbrev pub failed_at : Failed Sight
-failed_at old file first last why new = fails by_front old.known file first last why new.known
+failed_at old file first last why new = new.known ≡ old.known
 
-abbrev pub calls_of : Calls Sight
-calls_of = record {
+-- what its calls do, where these calls of its desk are made
+abbrev pub calls_of : (DeskCall → Type 0) → Calls Sight
+calls_of did = record {
   seen = shown;
   looks = LooksAt;
-  misses = λ house files required. LacksAs files required;
-  commits = λ old command done new. CommitsAs by_front old.known command done new.known;
-  undoes = λ old site change done new. UndoesAs by_front old.known site change done new.known;
-  uploads = λ old site n path bytes done new. TakesAs by_front old.known site n path bytes done new.known;
+  misses = λ house files required. LacksAs did by_front files required;
+  commits = λ old command done new. CommitsAs did by_front old.known command done new.known;
+  undoes = λ old site change done new. UndoesAs did by_front old.known site change done new.known;
+  uploads = λ old site n path bytes done new. TakesAs did by_front old.known site n path bytes done new.known;
 }

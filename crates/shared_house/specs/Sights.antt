@@ -2,7 +2,7 @@
 use Rattle.std.specs.Prelude.{refl}
 use Rattle.std.specs.Coded.{Coded, code_by, coded×}
 use Rattle.change_undo.specs.Histories.{Past}
-use Rattle.change_undo.specs.Logs.{Log}
+use Rattle.change_log.specs.Logs.{Log}
 
 -- the longest log that its visitor saw or learnt of, and the history that it shows
 pub record Sight : Type 0 where

@@ -1,6 +1,6 @@
 //! Connections that go from one worker to another, each with a note of what it saw.
 ghost use Rattle.std.specs.Prelude.{◌≡◌, ⊤};
-ghost use Rattle.change_undo.specs.Logs.{BeginsWith, Log};
+ghost use Rattle.change_log.specs.Logs.{BeginsWith, Log};
 ghost use Rattle.host_connection.specs.Advancing.{Goes, RemembersMemory, TellsBody, phases_left};
 ghost use Rattle.host_connection.specs.Carrying.{AnswersOnce, Carries, Leads};
 ghost use Rattle.host_replies.specs.Bodies.{answer_of};
@@ -9,15 +9,15 @@ ghost use Rattle.shared_house.specs.Guests.{IsGuestAnswer};
 ghost use Rattle.shared_house.specs.HouseLaws as houses;
 
 use crate::answered::Answered;
-use crate::answering::serve;
 use crate::desk_access::DeskAccess;
 use crate::file_access::FileAccess;
 use crate::houses::{DeskVisitor, SharedHouse};
-use change_undo::Entry;
+use host_answers::answer;
 use host_connection::{Connection, Metered, Progress, Request, Service};
 use host_replies::Reply;
 use http_wire::{Duplex, Head};
 use seen_lists::Front;
+use site_change::Entry;
 use site_desk::DeskName;
 use std::alloc::Global;
 use std::marker::Model;
@@ -42,7 +42,7 @@ pub struct Guest<J: DeskName, D, G> {
 }
 
 impl<J: DeskName, D, G> Model for Guest<J, D, G> {
-    ghost use Rattle.change_undo.specs.Logs.{Log};
+    ghost use Rattle.change_log.specs.Logs.{Log};
 
     ghost Value = { Log };
 
@@ -71,17 +71,17 @@ fn answer_guest<J: DeskName, D: DeskAccess<J>, G: FileAccess>(
     head: &Head,
     body: &[u8],
 ) -> Reply
-    ensures replied { IsGuestAnswer note.old head.now body.now (answer_of result) note.new }
+    ensures replied { IsGuestAnswer D.did note.old head.now body.now (answer_of result) note.new }
     ensures grows { BeginsWith note.new note.old }
 {
     house.visitor.learn_front(note);
-    let reply = serve(alloc, house, head, body);
+    let reply = answer(alloc, house, head, body);
     *note = house.visitor.front();
     reply
 }
 
 impl<J: DeskName, D: DeskAccess<J>, G: FileAccess> Service for Guest<J, D, G> {
-    ghost answers = { IsGuestAnswer };
+    ghost answers = { IsGuestAnswer D.did };
 
     ghost grows = { λ old new. BeginsWith new old };
 
@@ -108,7 +108,7 @@ impl<J: DeskName, D: DeskAccess<J>, G: FileAccess> Service for Guest<J, D, G> {
         Some(reply)
     }
 
-    ghost withheld = { laws.withheld };
+    ghost withheld = { laws.withheld D.did };
 
     ghost stays = { houses.stays };
 
@@ -198,10 +198,10 @@ impl<J: DeskName, D: DeskAccess<J>, G: FileAccess> Guest<J, D, G> {
         duplex: &mut Metered<X>,
     ) -> Progress
         ensures leads { (start : X) (first : Log)
-            → Carries IsGuestAnswer X.saw (Unit {0}) start first duplex.old.stream note.old connection.old
-            → Leads IsGuestAnswer X.saw (Unit {0}) X.waits start first duplex.new.stream note.new connection.new
-            result }
-        ensures asks { AnswersOnce IsGuestAnswer note.old note.new }
+            → Carries (IsGuestAnswer D.did) X.saw (Unit {0}) start first duplex.old.stream note.old connection.old
+            → Leads (IsGuestAnswer D.did) X.saw (Unit {0}) X.waits start first duplex.new.stream note.new
+            connection.new result }
+        ensures asks { AnswersOnce (IsGuestAnswer D.did) note.old note.new }
         ensures later { result ≡ Progress.Postponed → note.new ≡ note.old }
         ensures grows { BeginsWith note.new note.old }
         ensures goes { Goes X.saw duplex.old.stream duplex.new.stream result

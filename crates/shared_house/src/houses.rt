@@ -1,19 +1,20 @@
 //! A house whose history others change.
-ghost use Rattle.std.specs.Prelude.{◌≡◌, IfErr, IfOk, MatchOption, None, OnOk, Some};
-ghost use Rattle.change_undo.specs.Logs.{BeginsWith, last_number};
+ghost use Rattle.std.specs.Prelude.{◌≡◌, IfErr, IfOk, OnErr, OnOk, option_map};
+ghost use Rattle.change_log.specs.Logs.{BeginsWith, last_number};
 ghost use Rattle.host_answers.specs.declared.stops.Stop.TheVariants.{OutOfMemory};
-ghost use Rattle.shared_house.specs.Receipts as spec;
-ghost use Rattle.shared_house.specs.Receipts.{NotTakenAs, StopsAs};
+ghost use Rattle.shared_house.specs.Entering as spec;
+ghost use Rattle.shared_house.specs.Entering.{published_log, refusal_of, stop_of};
 ghost use Rattle.shared_house.specs.Seeing.{by_front};
 
+use crate::desk_access::DeskAccess;
+use crate::guests::Note;
 use blob_store::UploadFault;
-use change_undo::Entry;
 use host_answers::Stop;
 use host_api::Refusal;
 use seen_lists::{LookFault, Visitor};
-use shared_desk::UploadError;
-use site_change::ChangeRefusal;
-use site_desk::{DeskError, DeskName, HostSnap, Notice};
+use site_change::{ChangeRefusal, Entry};
+use site_desk::{DeskError, DeskName, HostSnap, Notice, UploadError};
+use std::alloc::AllocError;
 use std::marker::Model;
 use std::sync::Arc;
 
@@ -32,7 +33,7 @@ pub struct SharedHouse<J: DeskName, D, G> {
 
 impl<J: DeskName, D, G> Model for SharedHouse<J, D, G> {
     ghost use Rattle.std.specs.Coded.{coded_list};
-    ghost use Rattle.change_undo.specs.contracts.entries.Entry as entry;
+    ghost use Rattle.site_change.specs.contracts.entries.Entry as entry;
     ghost use Rattle.change_undo.specs.contracts.histories.History as histories;
     ghost use Rattle.shared_house.specs.Sights.{Sight, coded_sight};
 
@@ -90,45 +91,101 @@ impl<J: DeskName, D, G> SharedHouse<J, D, G> {
         Ok(number)
     }
 
-    /// Learns of what shows why there is no entry, if there is such a thing.
-    pub(crate) fn stop(&mut self, why: DeskError<Notice<J>>) -> Stop
-        ensures { StopsAs self.old.known why result self.new.known }
+    /// Learns of the log at which the desk answered.
+    fn learn_log(&mut self, seen: &Note<J>)
+        ensures { by_front.learns self.old.known seen.now self.new.known }
     {
-        match why {
-            DeskError::Broken => Stop::Broken,
-            DeskError::Refused { reason, seen } => {
-                self.visitor.learn(seen);
-                Stop::Refused(reason)
-            }
-            DeskError::NoReceipt(_) => Stop::OutOfMemory,
-            DeskError::OutOfMemory => Stop::OutOfMemory,
-            DeskError::Device => Stop::Device,
-        }
+        self.visitor.learn_front(seen);
     }
 
-    /// Learns of the publishing of a deploy, if there is one, and gives the number of its entry.
-    pub(crate) fn learn_published(&mut self, published: Option<Notice<J>>) -> Option<u64>
-        ensures { MatchOption published ((result ≡ None) × (self.new.known ≡ self.old.known))
-            (λ receipt. (result ≡ Some (last_number receipt)) × by_front.learns self.old.known receipt self.new.known) }
+    /// What is told if the desk makes no entry. The log at which it answered is learnt.
+    pub(crate) fn stop(&mut self, seen: &Note<J>, why: DeskError<Notice<J>>) -> Stop
+        ensures told { result ≡ stop_of why }
+        ensures learnt { by_front.learns self.old.known seen.now self.new.known }
+    {
+        self.learn_log(seen);
+        stop_for(why)
+    }
+
+    /// Learns of the log at which the desk took an upload, and of the publishing of a deploy, if there is one. Gives the number of its entry.
+    pub(crate) fn learn_taken(
+        &mut self,
+        seen: &Note<J>,
+        published: Option<Notice<J>>,
+    ) -> Option<u64>
+        ensures number { result ≡ option_map last_number published }
+        ensures learnt { by_front.learns self.old.known (published_log seen.now published) self.new.known }
     {
         match published {
             Some(receipt) => Some(self.learn(receipt)),
-            None => None,
+            None => {
+                self.learn_log(seen);
+                None
+            }
         }
     }
 
-    /// Why an upload isn't taken, or its deploy isn't published. It learns of what shows that.
-    pub(crate) fn not_taken(&mut self, why: UploadError<Notice<J>>) -> Refusal
-        ensures { NotTakenAs self.old.known why result self.new.known }
+    /// What is told if an upload isn't taken, or its deploy isn't published. The log at which the desk answered is learnt.
+    pub(crate) fn not_taken(&mut self, seen: &Note<J>, why: UploadError<Notice<J>>) -> Refusal
+        ensures told { result ≡ refusal_of why }
+        ensures learnt { by_front.learns self.old.known seen.now self.new.known }
     {
-        match why {
-            UploadError::Broken => Refusal::Broken,
-            UploadError::NoSuchDeploy => Refusal::Change(ChangeRefusal::NoSuchDeploy),
-            UploadError::NotListed => Refusal::NotListed,
-            UploadError::WrongDigest => Refusal::WrongDigest,
-            UploadError::NotStored(fault) => refusal_of_fault(fault),
-            UploadError::NotPublished(why) => self.stop(why).into(),
+        self.learn_log(seen);
+        refusal_for(why)
+    }
+}
+
+impl<J: DeskName, D: DeskAccess<J>, G> SharedHouse<J, D, G> {
+    /// The snapshot of the most that is shown, was seen or was learnt. There may be no memory for an owner of it.
+    pub(crate) fn see(&mut self) -> Result<Arc<HostSnap>, AllocError>
+        ensures seen { IfOk result (λ snap. self.new.known ≡ snap.value.entries) }
+        ensures kept { BeginsWith self.new.known self.old.known }
+        ensures same { OnErr result (self.new.known ≡ self.old.known) }
+    {
+        match self.visitor.look() {
+            Ok(snap) => Ok(snap),
+            Err(LookFault::OutOfMemory) => Err(AllocError),
+            Err(LookFault::Behind) => self.catch_up(),
         }
+    }
+
+    /// The same, of the desk itself: what was learnt isn't shown.
+    fn catch_up(&mut self) -> Result<Arc<HostSnap>, AllocError>
+        ensures seen { IfOk result (λ snap. self.new.known ≡ snap.value.entries) }
+        ensures kept { BeginsWith self.new.known self.old.known }
+        ensures same { OnErr result (self.new.known ≡ self.old.known) }
+    {
+        let mut seen = self.visitor.front();
+        let last = self.desk.shown(&mut seen)?;
+        let snap = Arc::try_clone(last.snap())?;
+        self.visitor.learn(last);
+        Ok(snap)
+    }
+}
+
+/// What is told if a desk makes no entry.
+fn stop_for<J: DeskName>(why: DeskError<Notice<J>>) -> Stop
+    ensures { result ≡ stop_of why }
+{
+    match why {
+        DeskError::Broken => Stop::Broken,
+        DeskError::Refused { reason, .. } => Stop::Refused(reason),
+        DeskError::NoReceipt(_) | DeskError::OutOfMemory => Stop::OutOfMemory,
+        DeskError::Device => Stop::Device,
+    }
+}
+
+/// Why an upload isn't taken, or its deploy isn't published.
+fn refusal_for<J: DeskName>(why: UploadError<Notice<J>>) -> Refusal
+    ensures { result ≡ refusal_of why }
+{
+    match why {
+        UploadError::Broken => Refusal::Broken,
+        UploadError::NoSuchDeploy => Refusal::Change(ChangeRefusal::NoSuchDeploy),
+        UploadError::NotListed => Refusal::NotListed,
+        UploadError::WrongDigest => Refusal::WrongDigest,
+        UploadError::NotStored(fault) => refusal_of_fault(fault),
+        UploadError::NotPublished(why) => stop_for(why).into(),
     }
 }
 

@@ -8,12 +8,9 @@ mod file_access;
 mod guests;
 mod houses;
 pub mod laws;
-mod seated_desks;
 
 pub use answered::Answered;
-pub use answering::answer_shared;
 pub use desk_access::{DeskAccess, Taken};
 pub use file_access::{CachedFiles, FileAccess, GroupFiles};
 pub use guests::{Guest, Note};
 pub use houses::{DeskVisitor, SharedHouse};
-pub use seated_desks::SeatedDesk;

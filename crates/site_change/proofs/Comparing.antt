@@ -7,7 +7,7 @@ use Rattle.std.specs.List.{AllByRecursion}
 use Rattle.std.specs.List.Sorted.{IsStrictlySortedBy}
 use Rattle.std.proofs.lemmas.Map.Keys.{sorted_head, sorted_tail}
 use Rattle.host_names.specs.Cells.{cell_cmp}
-use Rattle.persistent_collections.proofs.Entries.{sorted_from_test}
+use Rattle.persistent_maps.proofs.Entries.{sorted_from_test}
 use Rattle.host_names.specs.Digests.{digest_of}
 use Rattle.byte_view.specs.Contents.{Contents}
 use Rattle.host_names.specs.declared.cells.Cell.{Cell}

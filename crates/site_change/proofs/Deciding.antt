@@ -17,7 +17,7 @@ use Rattle.site_state.specs.Files.{Paths, IsByPath, at_path}
 use Rattle.site_state.specs.States.{State, with_cell, is_live_of, live_entries}
 use Rattle.site_state.specs.declared.values.Value.{Value}
 use Rattle.site_state.specs.declared.values.Value.TheVariants as value
-use Rattle.persistent_collections.proofs.Entries.{sorted_from_test}
+use Rattle.persistent_maps.proofs.Entries.{sorted_from_test}
 use Rattle.site_state.specs.declared.changes.Change.{Change}
 use Rattle.site_change.specs.Changes.{same_cell, with_served, with_published}
 use Rattle.site_change.specs.Differences.{Reading, AreChangesIn, AreLiveChanges, AreSides, AreTogether, in_list, live_cells, change_at}

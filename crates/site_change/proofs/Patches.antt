@@ -17,7 +17,7 @@ use Rattle.site_state.specs.Files.{Paths, IsByPath, at_path}
 use Rattle.site_state.specs.States.{State, may_stand, is_live_of}
 use Rattle.site_state.specs.declared.values.Value.{Value}
 use Rattle.site_state.specs.declared.values.Value.TheVariants as value
-use Rattle.persistent_collections.proofs.Entries.{key_at-less}
+use Rattle.persistent_maps.proofs.Entries.{key_at-less}
 use Rattle.site_state.specs.declared.changes.Change.{Change}
 use Rattle.site_change.specs.Changes.{same_cell, file_at, is_listed, with_listed, with_patch}
 use Rattle.site_change.specs.Differences.{Reading, AreChangesIn, AreListedChanges, change_at}

@@ -11,7 +11,7 @@ use Rattle.std.proofs.lemmas.Cmp.{nat_list_cmp_total}
 use Rattle.std.proofs.lemmas.List.{get_or_default}
 use Rattle.std.proofs.lemmas.List.Elements.{recursion_from_All}
 use Rattle.site_state.specs.Files.{Paths, IsByPath}
-use Rattle.persistent_collections.proofs.Entries.{key_at-less}
+use Rattle.persistent_maps.proofs.Entries.{key_at-less}
 
 module _ {X : Type 0} where
   before_new : (p q : List ℕ) (x : X) (es : Paths X) → AllByRecursion (λ k. slice_cmp nat_cmp p k ≡ Less) (map (λ e. e.0) es) → slice_cmp nat_cmp p q ≡ Less

@@ -1,6 +1,7 @@
 -- what public clauses say
 pub mod Changes
 pub mod Decisions
+pub mod Entries
 pub mod Laws
 pub mod Plans
 pub mod Refusals

@@ -4,6 +4,7 @@
 mod cell_commands;
 mod commands;
 mod decisions;
+mod entries;
 pub mod laws;
 mod live;
 mod plans;
@@ -15,6 +16,7 @@ mod uploads;
 
 pub use commands::Command;
 pub use decisions::{MOST_FILES, decide, opening_refusal};
+pub use entries::Entry;
 pub use plans::Plan;
 pub use refusals::{ChangeError, ChangeRefusal};
 pub use touched::{Touched, TouchedCells};

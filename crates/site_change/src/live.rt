@@ -9,7 +9,7 @@ ghost use Rattle.site_change.specs.Differences.{AreLiveChanges, AreSides, Compar
 
 use crate::plans::push_some;
 use host_names::{Cell, CellRef, FilePath, SiteName};
-use persistent_collections::Range;
+use persistent_maps::Range;
 use site_state::{Change, File, Value};
 use std::alloc::{AllocError, Global};
 use std::cmp::Ordering;

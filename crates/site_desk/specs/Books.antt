@@ -8,12 +8,12 @@ use Rattle.host_disk.specs.declared.disks.Disk.{Ghosts}
 use Rattle.site_state.specs.States.{State}
 use Rattle.site_change.specs.declared.commands.Command.{Command}
 use Rattle.site_change.specs.declared.refusals.ChangeRefusal.{ChangeRefusal}
-use Rattle.change_undo.specs.declared.entries.Entry.{Entry}
-use Rattle.change_undo.specs.Logs.{Log, last_number}
+use Rattle.site_change.specs.declared.entries.Entry.{Entry}
+use Rattle.change_log.specs.Logs.{Log, last_number}
 use Rattle.change_undo.specs.Histories as histories
 use Rattle.change_undo.specs.Histories.{Past, run}
 use Rattle.change_undo.specs.Plans.{IsHistoryOver}
-use Rattle.change_journal.specs.entries.Held.{Keeps}
+use Rattle.change_journal.specs.Held.{Keeps}
 use Rattle.journaled_history.specs.Puts.{IsPut, IsPutInVain}
 use Rattle.site_desk.specs.declared.errors.DeskError.{DeskError}
 use Rattle.site_desk.specs.declared.errors.DeskError.TheVariants.{Device}
@@ -26,9 +26,9 @@ pub record Kept (D : Type 0) : Type 0 where
 -- it is stored as its parts in a row
 abbrev pub coded_kept : {D : Type 0} → Coded Contents → Coded Log → Coded D → Coded (Kept D)
 coded_kept {D = D} known log disk =
-    code_by (Contents × (Log × (Bool × D))) (coded× known (coded× log (coded× coded_bool disk)))
-    (λ k. (k.known, (k.journal.entries, (k.journal.broken, k.journal.disk))))
-    (λ t. record { known = t.0; journal = record { entries = t.1.0; broken = t.1.1.0; disk = t.1.1.1 } }) (λ _. refl)
+    code_by (Contents × (Log × (Bool × (D × D)))) (coded× known (coded× log (coded× coded_bool (coded× disk disk))))
+    (λ k. (k.known, (k.journal.entries, (k.journal.broken, (k.journal.first, k.journal.second)))))
+    (λ t. record { known = t.0; journal = record { entries = t.1.0; broken = t.1.1.0; first = t.1.1.1.0; second = t.1.1.1.1 } }) (λ _. refl)
 
 -- the same with these uploads
 abbrev pub with_known : {D : Type 0} → Kept D → Contents → Kept D
@@ -46,8 +46,8 @@ commit_refusal kept command = histories.commit_refusal kept.known 1000000 kept.j
 abbrev pub undo_refusal : {D : Type 0} → Kept D → SiteName → ℕ → Option ChangeRefusal
 undo_refusal kept site change = histories.undo_refusal kept.known 1000000 kept.journal.entries site change
 
--- The entry was put into the journal, which tells what a crash may leave of its disk at any moment of that and then; or the device failed in that, so
--- that the disk may hold it or not, and nothing more is put; or nothing changed. The uploads that are known stay.
+-- The entry was put into the journal, which tells what a crash may leave of its disks at any moment of that and then; or a device failed in that, so
+-- that the disks may hold it or not, and nothing more is put; or nothing changed. The uploads that are known stay.
 abbrev pub IsEntered : {A S D : Type 0} → Ghosts D → Result A (DeskError S) → Entry → Kept D → Kept D → Type 0
 IsEntered disk (Ok receipt) entry old new = IsPut disk old.journal entry new.journal × (new.known ≡ old.known)
 IsEntered disk (Err Device) entry old new = IsPutInVain disk old.journal entry new.journal × (new.known ≡ old.known)

@@ -1,4 +1,5 @@
 -- what public clauses say
+pub mod Snaps
 pub mod Stocks
 pub mod Seats
 pub mod Books

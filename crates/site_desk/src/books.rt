@@ -1,11 +1,12 @@
 //! A book: the history of a desk, its journal, and what is published of it.
 ghost use Rattle.std.specs.Prelude.{◌≡◌, ◌+◌, ◌≤◌, IfOk, MatchOption, MatchResult, None, Some, false, true};
-ghost use Rattle.change_journal.specs.texts.Spells.{IsInRange};
+ghost use Rattle.byte_view.specs.Contents.{AreDigested};
+ghost use Rattle.entry_texts.specs.Spells.{IsInRange};
 ghost use Rattle.change_undo.specs.Histories.{may_take_memory};
-ghost use Rattle.change_undo.specs.Logs.{Log, last_number, with_entry};
+ghost use Rattle.change_log.specs.Logs.{BeginsWith, Log, last_number, with_entry};
 ghost use Rattle.change_undo.specs.Plans.{IsHistoryOver};
-ghost use Rattle.change_undo.specs.declared.entries.Entry.{Entry as Line};
-ghost use Rattle.change_undo.specs.declared.entries.Entry.TheVariants as entry;
+ghost use Rattle.site_change.specs.declared.entries.Entry.{Entry as Line};
+ghost use Rattle.site_change.specs.declared.entries.Entry.TheVariants as entry;
 ghost use Rattle.site_change.specs.Changes.{IsWithin};
 ghost use Rattle.site_desk.specs.Answers.{IsAnswer, IsEnd, IsToldAs};
 ghost use Rattle.site_desk.specs.Books.{IsEntered, Kept, commit_refusal, undo_refusal, with_known};
@@ -18,13 +19,13 @@ use crate::snaps::HostSnap;
 use crate::stocks::{Stock, Tie};
 use byte_view::{BlobInfo, Uploads};
 use change_journal::Journal;
-use change_undo::{Entry, History};
+use change_undo::History;
 use host_disk::Disk;
 use host_names::SiteName;
 use journaled_history::{put_last, with_change, with_undo};
 use left_right::Absorb;
-use seen_lists::{ListName, Owners};
-use site_change::{ChangeError, Command};
+use seen_lists::{Front, ListName, Owners};
+use site_change::{ChangeError, Command, Entry};
 use std::alloc::Global;
 use std::marker::Model;
 use std::sync::{Arc, Wait};
@@ -67,7 +68,7 @@ impl<
     R: Wait + Drop,
 > Model for Book<J, K, D, T, R> {
     ghost use Rattle.std.specs.Coded.{coded_list};
-    ghost use Rattle.change_undo.specs.contracts.entries.Entry as entry;
+    ghost use Rattle.site_change.specs.contracts.entries.Entry as entry;
     ghost use Rattle.blob_store.specs.contracts.blob_indexes.BlobIndex as known;
     ghost use Rattle.site_desk.specs.Books.{IsBook, Kept, coded_kept};
 
@@ -124,8 +125,26 @@ impl<
         ensures entries { result.now.entries ≡ self.now.journal.entries }
         ensures limit { result.now.limit ≡ 1000000 }
         ensures over { IsHistoryOver self.now.known result.now }
+        ensures digested { AreDigested self.now.known }
     {
+        self.tie.are_digested();
         &self.latest
+    }
+
+    /// The receipt of all entries.
+    pub fn last(&self) -> &Notice<J>
+        ensures { result.now ≡ self.now.journal.entries }
+    {
+        self.published.last()
+    }
+
+    /// Tells a front of all entries. What it had seen was a beginning of them.
+    pub fn tell(&mut self, seen: &mut Front<Entry, J>)
+        ensures same { self.new ≡ self.old }
+        ensures told { seen.new ≡ self.old.journal.entries }
+        ensures kept { BeginsWith seen.new seen.old }
+    {
+        self.published.tell(seen);
     }
 
     /// The history.
@@ -250,6 +269,7 @@ impl<
         ensures receipt { IfOk result (λ receipt. receipt ≡ next.entries) }
         ensures made { MatchResult result (λ _. mine.new ≡ mine.old + 1) (λ _. mine.new ≡ mine.old) }
     {
+        self.tie.are_digested();
         let snap = HostSnap::shared(self.alloc, next)?;
         let owners = Owners::of(&snap)?;
         let entry = last_entry(snap.history());

@@ -1,7 +1,7 @@
 //! Which desk a value belongs to.
 
-use change_undo::Entry;
 use seen_lists::ListName;
+use site_change::Entry;
 use std::marker::Brand;
 use std::sync::ledger::Ledger;
 

@@ -1,13 +1,14 @@
 //! What is published of a desk: the list of its entries, with what is shown, and how many each seat made.
 ghost use Rattle.std.specs.Prelude.{◌≡◌, ◌+◌, ◌≤◌, MatchOption};
-ghost use Rattle.change_undo.specs.Logs.{last_number, with_entry};
+ghost use mathlib.Core.List.{IsPrefix};
+ghost use Rattle.change_log.specs.Logs.{last_number, with_entry};
 
 use crate::names::DeskName;
 use crate::seats::{Returned, Seat};
 use crate::snaps::HostSnap;
-use change_undo::Entry;
 use left_right::Absorb;
-use seen_lists::{Owners, Publisher, Receipt};
+use seen_lists::{Front, Owners, Publisher, Receipt};
+use site_change::Entry;
 use std::marker::Model;
 use std::sync::{Wait, ledger};
 
@@ -26,7 +27,7 @@ pub struct Published<J: DeskName, T: Absorb<Notice<J>, State = [Entry; 0]> + Dro
 impl<J: DeskName, T: Absorb<Notice<J>, State = [Entry; 0]> + Drop, R: Wait + Drop> Model
     for Published<J, T, R> {
     ghost use Rattle.std.specs.Prelude.{◌≡◌, ◌+◌, ◌≤◌};
-    ghost use Rattle.change_undo.specs.Logs.{Log, last_number};
+    ghost use Rattle.change_log.specs.Logs.{Log, last_number};
     ghost use Rattle.site_desk.specs.Books.{IsCounted};
 
     ghost Value = { Log };
@@ -66,6 +67,15 @@ impl<J: DeskName, T: Absorb<Notice<J>, State = [Entry; 0]> + Drop, R: Wait + Dro
         ensures { result.now ≡ self.now }
     {
         self.publisher.last()
+    }
+
+    /// Tells a front of all entries. What it had seen was a beginning of them.
+    pub(crate) fn tell(&mut self, seen: &mut Front<Entry, J>)
+        ensures same { self.new ≡ self.old }
+        ensures told { seen.new ≡ self.old }
+        ensures kept { IsPrefix seen.old seen.new }
+    {
+        self.publisher.tell(seen);
     }
 
     /// Shows the snapshot that has one entry more, which was made from this seat, and gives its receipt.

@@ -2,15 +2,17 @@
 ghost use Rattle.std.specs.Prelude.{◌≡◌, None, OnErr, OnOk};
 ghost use Rattle.std.specs.FinMap as map;
 ghost use Rattle.host_names.specs.Digests.{digest_of};
-ghost use Rattle.byte_view.specs.Contents.{with_file};
+ghost use Rattle.blob_store.specs.Calls.{PutsFile};
+ghost use Rattle.byte_view.specs.Contents.{AreDigested, with_file};
 ghost use Rattle.site_change.specs.Changes.{IsWithin};
 ghost use Rattle.site_desk.specs.Stocks.{contents_of};
 
-use blob_store::BlobIndex;
+use blob_store::{BlobIndex, Shelf};
 use byte_view::BlobInfo;
 use seen_lists::{Front, ListName, SeenList};
 use std::alloc::AllocError;
 use std::marker::Model;
+use std::snapshot::Snapshot;
 use std::sync::Arc;
 
 /// More files than there is memory for.
@@ -57,6 +59,16 @@ impl<K: ListName<BlobInfo>> Model for Tie<K> {
     ghost view = { λ t. contents_of t.front };
 }
 
+impl<K: ListName<BlobInfo>> Tie<K> {
+    /// Each of the files is under its own digest.
+    pub(crate) fn are_digested(&self)
+        ensures { AreDigested self.now }
+    {
+        // A proof knows what a value is made of once it is read.
+        self.front.len();
+    }
+}
+
 impl<K: ListName<BlobInfo>> Stock<K> {
     /// The files of an index, which are those of the list.
     pub fn of(index: BlobIndex, list: SeenList<BlobInfo, K>) -> Stock<K>
@@ -73,12 +85,20 @@ impl<K: ListName<BlobInfo>> Stock<K> {
         &self.index
     }
 
-    /// Adds a file. A known digest keeps its file, and takes no memory. If memory runs out, nothing changes.
-    pub fn keep(&mut self, file: Arc<BlobInfo>) -> Result<(), AllocError>
+    /// Adds a file that was put on a shelf whole, as this shelf was before and as it was then. A known digest keeps its file, and takes no memory. If memory
+    /// runs out, nothing changes.
+    pub fn keep<S: Shelf>(
+        &mut self,
+        file: Arc<BlobInfo>,
+        before: Snapshot<S>,
+        after: Snapshot<S>,
+    ) -> Result<(), AllocError>
+        requires put { PutsFile S.did map.empty before.value file.value None after.value }
         ensures ok { OnOk result (self.new ≡ with_file self.old file.value) }
         ensures err { OnErr result (self.new ≡ self.old) }
         ensures memory { OnErr result (map.get self.old (digest_of file.value) ≡ None) }
     {
+        let _ = (before, after);
         if self.index.find(&file.digest()).is_some() {
             return Ok(());
         }

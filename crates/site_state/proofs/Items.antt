@@ -9,11 +9,11 @@ use Rattle.host_names.specs.Cells.{cell_cmp}
 use Rattle.host_names.specs.CellOrder.{cell_cmp_total, cell_cmp-IsAntisymmetric}
 use Rattle.site_state.specs.declared.values.Value.{Value}
 use Rattle.site_state.specs.States.{State, AreOfKind, is_of_kind, may_stand, with_cell, with_cells}
-use Rattle.persistent_collections.specs.Edits.{listed, edited, edited_by}
+use Rattle.persistent_maps.specs.Edits.{listed, edited, edited_by}
 use Rattle.site_state.specs.Items.{AreItems, AreOfState}
 use Rattle.site_state.specs.Named.{AliasesNamed}
-use Rattle.persistent_collections.proofs.Edits.{equal, Rises-edited, find-edited, AllByRecursion-edited}
-use Rattle.persistent_collections.proofs.Entries.{is_sorted-from}
+use Rattle.persistent_maps.proofs.Edits.{equal, Rises-edited, find-edited, AllByRecursion-edited}
+use Rattle.persistent_maps.proofs.Entries.{is_sorted-from}
 
 abbrev pub Items : Type 0
 Items = List (Cell × Value)

@@ -21,7 +21,7 @@ use Rattle.site_state.specs.Aliases.{stands_for, name_in, alias_for, IsLeastAlia
 use Rattle.site_state.specs.States.{State, as_number, alias_at, alias_entries, is_alias_of}
 use Rattle.site_state.specs.declared.values.Value.{Value}
 use Rattle.site_state.specs.declared.values.Value.TheVariants as value
-use Rattle.persistent_collections.proofs.Entries.{key_at-less, find-absent, sorted_from_test}
+use Rattle.persistent_maps.proofs.Entries.{key_at-less, find-absent, sorted_from_test}
 use Rattle.site_state.specs.SpanOfLive.{texts}
 
 tail_passes : (a b : Bool) → T (a && b) → T b

@@ -16,7 +16,7 @@ use Rattle.site_state.specs.Named.{AliasesNamed}
 use Rattle.site_state.specs.States.{State, with_cell, with_cells, alias_at, kept_at, as_number, as_tree}
 use Rattle.site_state.specs.declared.values.Value.{Value}
 use Rattle.site_state.specs.declared.values.Value.TheVariants as value
-use Rattle.persistent_collections.proofs.Edits.{equal}
+use Rattle.persistent_maps.proofs.Edits.{equal}
 use Rattle.site_state.proofs.Items.{get-with_cell}
 use Rattle.site_state.proofs.LeastAlias.{least_alias}
 

@@ -11,7 +11,7 @@ use Rattle.host_names.specs.Cells.{cell_cmp}
 use Rattle.host_names.specs.CellOrder.{cell_cmp_total, cell_cmp-IsAntisymmetric}
 use Rattle.site_state.specs.declared.values.Value.{Value}
 use Rattle.site_state.specs.States.{State, with_cell, with_cells}
-use Rattle.persistent_collections.proofs.Edits.{at_key}
+use Rattle.persistent_maps.proofs.Edits.{at_key}
 use Rattle.site_state.proofs.Items.{get-with_cell}
 
 -- the cells and what is written into each

@@ -12,7 +12,7 @@ use Rattle.host_names.specs.CellOrder.{texts-IsAntisymmetric}
 use Rattle.site_state.specs.States.{is_alias_of}
 use Rattle.site_state.specs.AliasRange.{has_earlier_kind, by_site, is_before_aliases}
 use Rattle.site_state.specs.SpanOfLive.{texts, then_less}
-use Rattle.persistent_collections.specs.Spans.{StandTogether}
+use Rattle.persistent_maps.specs.Spans.{StandTogether}
 
 -- of two cells of one site the earlier has no later kind
 rest_less : (r s : Ordering) → r ≡ Equal → ordering_then r s ≡ Less → s ≡ Less

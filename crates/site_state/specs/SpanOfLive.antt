@@ -11,7 +11,7 @@ use Rattle.host_names.specs.Cells.{cell_cmp, site_of}
 use Rattle.host_names.specs.CellOrder.{texts-IsAntisymmetric}
 use Rattle.site_state.specs.States.{is_live_of}
 use Rattle.site_state.specs.LiveRange.{is_of_site_before}
-use Rattle.persistent_collections.specs.Spans.{StandTogether}
+use Rattle.persistent_maps.specs.Spans.{StandTogether}
 
 abbrev pub texts : List ℕ → List ℕ → Ordering
 texts = slice_cmp nat_cmp

@@ -3,12 +3,12 @@ ghost use Rattle.std.specs.Prelude.{◌≡◌, IfOk, IsTrue};
 ghost use Rattle.std.specs.List.Sorted.{IsStrictlySortedBy};
 ghost use Rattle.std.specs.Map.{keys_of};
 ghost use Rattle.host_names.specs.Cells.{cell_cmp};
-ghost use Rattle.persistent_collections.specs.Edits.{edited_by};
+ghost use Rattle.persistent_maps.specs.Edits.{edited_by};
 ghost use Rattle.site_state.specs.Changes.{on_side, writes};
 
 use crate::values::Value;
 use host_names::Cell;
-use persistent_collections::SharedMap;
+use persistent_maps::SharedMap;
 use std::alloc::{AllocError, Global};
 
 /// What changes in one cell. An empty cell has the value `None`.

@@ -7,7 +7,7 @@ ghost use Rattle.site_state.specs.States;
 
 use crate::values::Value;
 use host_names::{AliasName, Cell, CellRef, SiteName};
-use persistent_collections::{Probe, Range, Span};
+use persistent_maps::{Probe, Range, Span};
 use std::cmp::Ordering;
 
 /// Whether a cell comes before all those of a site.

@@ -10,7 +10,7 @@ use crate::files::File;
 use crate::site_cells::{AliasesOf, LiveOf, Sought, first_alias};
 use crate::values::{Draft, Tree, Value};
 use host_names::{AliasName, Cell, CellRef, Digest, FilePath, SiteName};
-use persistent_collections::{Range, SharedMap};
+use persistent_maps::{Range, SharedMap};
 use std::alloc::{AllocError, Global};
 use std::marker::Model;
 

@@ -13,8 +13,8 @@ use Rattle.std.proofs.lemmas.Cmp.{nat_cmp_total}
 use Rattle.std.proofs.lemmas.List.Kept.{Contains-dedup_nat, Contains-from_dedup, IsStrictlySortedBy-dedup}
 use Rattle.std.proofs.lemmas.List.Sorted.{Contains-permutation, IsPermutation-sym}
 use Rattle.std.proofs.lemmas.Map.Views.{Contains-from_any, list_any-from_Contains}
-use Rattle.persistent_collections.specs.Edits.{edited, edited_by}
-use Rattle.persistent_collections.proofs.Edits.{find-edited, Rises-edited}
+use Rattle.persistent_maps.specs.Edits.{edited, edited_by}
+use Rattle.persistent_maps.proofs.Edits.{find-edited, Rises-edited}
 use Rattle.touch_index.specs.Postings.{posting_cmp, Postings, Rises, posting, edits, is_posted, is_among, AreSameKeys}
 use Rattle.touch_index.specs.PostingOrder.{posting_cmp_total, posting_cmp-IsAntisymmetric}
 

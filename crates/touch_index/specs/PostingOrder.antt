@@ -4,7 +4,7 @@ use Rattle.std.specs.Cmp.{IsTotalOrder}
 use Rattle.std.specs.FinMap.{IsAntisymmetric}
 use Rattle.std.proofs.lemmas.Cmp.{on_total, then_total, nat_cmp_total}
 use Rattle.std.proofs.lemmas.Bool.Decides.{nat_tests}
-use Rattle.persistent_collections.specs.Spans.{StandTogether}
+use Rattle.persistent_maps.specs.Spans.{StandTogether}
 use Rattle.touch_index.specs.declared.postings.Posting.{Posting}
 use Rattle.touch_index.specs.Postings.{posting_cmp, is_up_to, is_above}
 

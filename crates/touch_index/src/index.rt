@@ -9,7 +9,7 @@ use crate::keys::{all_aliases, all_paths, cell_key, have_same_wildcards, keys_of
 use crate::numbers::lesser;
 use crate::postings::{Above, Posting};
 use host_names::Cell;
-use persistent_collections::SharedMap;
+use persistent_maps::SharedMap;
 use site_change::Touched;
 use site_state::Change;
 use std::alloc::{AllocError, Global};

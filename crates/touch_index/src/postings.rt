@@ -1,6 +1,6 @@
 //! Postings: under which keys a change is found.
 
-use persistent_collections::Span;
+use persistent_maps::Span;
 
 /// The change with this number is posted under this key. Postings are ordered by key and then by number, so that the changes under one key
 /// are side by side. A posting takes 16 bytes.

@@ -2,7 +2,7 @@
 use Rattle.std.proofs.Common.{◌≡◌, ℕ, ◌≤◌, List, [], ◌∷◌, ◌++◌, length, drop, refl, sym, ap, ◌∙◌, arith, subst}
 use Rattle.std.proofs.lemmas.List.{append-nil, append_assoc, drop-append-le, drop_all, length_push}
 use Rattle.std.specs.List.{AllByRecursion}
-use Rattle.change_undo.specs.Logs.{BeginsWith, Log}
+use Rattle.change_log.specs.Logs.{BeginsWith, Log}
 use Rattle.world_desk.specs.Visitors.{IsKeptTo, OnlyGrow, SeesInOrder, Watched, looked, taught}
 use Rattle.world_desk.proofs.Changing.{all_push, all_weaker}
 

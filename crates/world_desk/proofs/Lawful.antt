@@ -6,9 +6,9 @@ use Rattle.std.proofs.lemmas.List.{append-nil, append_assoc, length_push}
 use Rattle.std.specs.List.{AllByRecursion}
 use Rattle.byte_view.specs.Contents.{Contents}
 use Rattle.site_change.specs.Changes.{IsWithin}
-use Rattle.change_undo.specs.declared.entries.Entry.{Entry}
+use Rattle.site_change.specs.declared.entries.Entry.{Entry}
 use Rattle.change_undo.specs.Histories.{IsLegal, IsLegalAfter, is_allowed}
-use Rattle.change_undo.specs.Logs.{Log}
+use Rattle.change_log.specs.Logs.{Log}
 use Rattle.world_desk.specs.Visitors.{SeesInOrder, looked, taught, unseen}
 use Rattle.world_desk.specs.Desks.{Ask, DeskState, DeskStep, Enter, IsLawful, Learn, Publish, Upload, after_all, asked, happens, is_published, is_taken, start, with_upload}
 use Rattle.world_desk.proofs.Changing.{all_changed, all_weaker, uploads_stay}

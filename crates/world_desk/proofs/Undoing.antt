@@ -12,11 +12,11 @@ use Rattle.site_change.specs.declared.refusals.ChangeRefusal.{ChangeRefusal}
 use Rattle.site_change.specs.declared.refusals.ChangeRefusal.TheVariants.{AlreadyUndone, HistoryFull, NoSuchChange, NotAChange}
 use Rattle.site_change.specs.Changes.{run_from, site_of_command}
 use Rattle.change_undo.specs.Clashes.{ChangesAt, TouchesAt, clash}
-use Rattle.change_undo.specs.declared.entries.Entry.{Entry}
-use Rattle.change_undo.specs.declared.entries.Entry.TheVariants as entry
+use Rattle.site_change.specs.declared.entries.Entry.{Entry}
+use Rattle.site_change.specs.declared.entries.Entry.TheVariants as entry
 use Rattle.change_undo.specs.Histories.{IsLegal, change_refusal, entry_at, is_among, live_changes, refusal_at, run, same_site, undo_refusal, undone as undone_in}
 use Rattle.change_undo.specs.Live.{without}
-use Rattle.change_undo.specs.Logs.{Log, last_number, with_entry}
+use Rattle.change_log.specs.Logs.{Log, last_number, with_entry}
 use Rattle.change_undo.proofs.Live.{live_changes-undo, live_from-rising}
 use Rattle.change_undo.proofs.LiveEntries.{entry-lives, no_clash-none, not_refused}
 use Rattle.change_undo.proofs.Places.{no_clash, placed}

@@ -4,9 +4,9 @@ use Rattle.std.specs.FinMap as map
 use Rattle.std.specs.List.{AllByRecursion}
 use Rattle.std.specs.Coded.{Coded, code_by, coded×, coded_list, coded_ℕ}
 use Rattle.byte_view.specs.Contents.{Contents, with_file}
-use Rattle.change_undo.specs.declared.entries.Entry.{Entry}
+use Rattle.site_change.specs.declared.entries.Entry.{Entry}
 use Rattle.change_undo.specs.Histories.{IsLegal, is_allowed}
-use Rattle.change_undo.specs.Logs.{BeginsWith, Log, empty_log, last_number, with_entry}
+use Rattle.change_log.specs.Logs.{BeginsWith, Log, empty_log, last_number, with_entry}
 use Rattle.world_desk.specs.Visitors.{SeesInOrder, Watched, coded_watched, looked, taught, unseen}
 
 -- how many entries a log may have, what was uploaded, the log that the desk has, the log that is shown, and what each visitor has seen

@@ -1,5 +1,5 @@
 -- What a visitor has seen after a look or a telling.
-use Rattle.change_undo.specs.Logs.{Log}
+use Rattle.change_log.specs.Logs.{Log}
 use Rattle.world_desk.specs.declared.visitors.Sight.{Sight}
 use Rattle.world_desk.specs.declared.visitors.Sight.TheVariants.{Look, Telling}
 use Rattle.world_desk.specs.Visitors.{Watched, looked, taught}

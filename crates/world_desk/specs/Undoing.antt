@@ -9,10 +9,10 @@ use Rattle.site_change.specs.Changes.{run_from, site_of_command}
 use Rattle.site_change.specs.declared.commands.Command.{Command}
 use Rattle.site_change.specs.declared.refusals.ChangeRefusal.{ChangeRefusal}
 use Rattle.change_undo.specs.Clashes.{ChangesAt, TouchesAt}
-use Rattle.change_undo.specs.declared.entries.Entry.TheVariants as entry
+use Rattle.site_change.specs.declared.entries.Entry.TheVariants as entry
 use Rattle.change_undo.specs.Histories.{live_changes, run, undo_refusal}
 use Rattle.change_undo.specs.Live.{without}
-use Rattle.change_undo.specs.Logs.{last_number, with_entry}
+use Rattle.change_log.specs.Logs.{last_number, with_entry}
 use Rattle.world_desk.specs.Desks.{Ask, DeskState, happens, is_published}
 
 -- the desk after it was asked for the undo of this change of this site

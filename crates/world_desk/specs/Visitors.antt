@@ -2,7 +2,7 @@
 use Rattle.std.specs.Prelude.{ℕ, ◌≤◌, List, [], ◌∷◌, ◌++◌, length, drop, refl}
 use Rattle.std.specs.List.{AllByRecursion}
 use Rattle.std.specs.Coded.{Coded, code_by, coded×, coded_list, coded_ℕ}
-use Rattle.change_undo.specs.Logs.{BeginsWith, Log}
+use Rattle.change_log.specs.Logs.{BeginsWith, Log}
 
 -- the logs of its looks, in order; and the logs that it was told of, each with how many looks it had then
 pub record Watched : Type 0 where

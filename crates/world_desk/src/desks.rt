@@ -1,6 +1,6 @@
 //! Desks.
 ghost use Rattle.std.specs.Prelude.{◌≡◌, ◌<◌, ◌≤◌, IfOk, IfSome, OnErr, OnOk, Some, length, slice_get};
-ghost use Rattle.change_undo.specs.declared.entries.Entry.TheVariants as entry;
+ghost use Rattle.site_change.specs.declared.entries.Entry.TheVariants as entry;
 ghost use Rattle.change_undo.specs.Histories.{run};
 ghost use Rattle.world_desk.specs.Desks.{asked, happens, is_published, look_count, start, with_upload};
 ghost use Rattle.world_desk.specs.Desks as step;
@@ -9,8 +9,9 @@ use crate::entries::{ask_commit, ask_undo};
 use crate::visitors::{Sight, Visitor, show_to, visitors_of};
 use blob_store::BlobIndex;
 use byte_view::{BlobInfo, MAX_SIZE};
+use change_log::Log;
+use change_undo::History;
 use change_undo::laws::histories_outlast_uploads;
-use change_undo::{History, Log};
 use host_names::SiteName;
 use site_change::Command;
 use site_state::State;
@@ -33,7 +34,7 @@ impl Model for Desk {
     ghost use Rattle.std.specs.Coded.{coded_list, coded_ℕ};
     ghost use Rattle.std.specs.FinMap as map;
     ghost use Rattle.host_names.specs.Digests.{coded_digest};
-    ghost use Rattle.change_undo.specs.contracts.entries.Entry as entry;
+    ghost use Rattle.site_change.specs.contracts.entries.Entry as entry;
     ghost use Rattle.change_undo.specs.Plans.{IsHistoryOver};
     ghost use Rattle.world_desk.specs.Desks.{DeskState, coded_desk};
 

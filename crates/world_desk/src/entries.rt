@@ -1,6 +1,6 @@
 //! Entries that a history is asked for.
 ghost use Rattle.std.specs.Prelude.{◌≡◌, OnErr, OnOk};
-ghost use Rattle.change_undo.specs.declared.entries.Entry.TheVariants as entry;
+ghost use Rattle.site_change.specs.declared.entries.Entry.TheVariants as entry;
 ghost use Rattle.change_undo.specs.Plans.{IsHistoryOver};
 ghost use Rattle.world_desk.specs.Desks.{with_taken};
 

@@ -4,7 +4,7 @@ ghost use Rattle.world_desk.specs.Desks.{change_at};
 ghost use Rattle.world_desk.specs.Sights.{seen};
 ghost use Rattle.world_desk.specs.Visitors.{unseen};
 
-use change_undo::Log;
+use change_log::Log;
 use std::alloc::{AllocError, Global};
 use std::marker::Model;
 
@@ -26,7 +26,7 @@ pub(crate) struct Visitor {
 
 impl Model for Visitor {
     ghost use Rattle.std.specs.Coded.{coded_list};
-    ghost use Rattle.change_undo.specs.contracts.entries.Entry as entry;
+    ghost use Rattle.site_change.specs.contracts.entries.Entry as entry;
     ghost use Rattle.world_desk.specs.Visitors.{Watched, coded_watched};
 
     ghost Value = { Watched };

@@ -5,13 +5,14 @@ use crate::desk::gates::Gate;
 use crate::desk::scripts::Upload;
 use blob_store::{LockedAccess, Shelf};
 use byte_view::BlobInfo;
-use change_undo::Entry;
 use host_disk::Disk;
 use host_names::Digest;
 use left_right::Absorb;
-use seen_lists::ListName;
-use shared_desk::{Desk, UploadError};
-use site_desk::{DeskError, DeskName, Notice, Seat};
+use seen_lists::{Front, ListName};
+use shared_desk::Desk;
+use site_change::Entry;
+use site_desk::{DeskError, DeskName, Notice, Seat, UploadError};
+use std::alloc::AllocError;
 use std::sync::Wait;
 
 /// The answer to an entry.
@@ -22,17 +23,27 @@ pub(crate) type Uploaded<J> = Result<Option<Notice<J>>, UploadError<Notice<J>>>;
 
 /// A desk that threads share.
 pub(crate) trait AskedDesk<J: DeskName> {
-    /// Its answer where this is to be its next entry.
-    fn enter<W: Wait>(&self, rt: &W, seat: &mut Seat<J>, entry: Entry) -> Entered<J>;
+    /// Its answer where this is to be its next entry. It tells the entries by which it is judged.
+    fn enter<W: Wait>(
+        &self,
+        rt: &W,
+        seen: &mut Front<Entry, J>,
+        seat: &mut Seat<J>,
+        entry: Entry,
+    ) -> Entered<J>;
 
-    /// Its answer to an upload to the deploy of this number, by the steps of `SeatedDesk::upload` of `shared_house`.
+    /// Its answer to an upload to the deploy of this number, by the steps of `SeatedDesk::upload` of `desk_seats`.
     fn upload<W: Wait>(
         &self,
         rt: &W,
+        seen: &mut Front<Entry, J>,
         seat: &mut Seat<J>,
         number: u64,
         upload: &Upload,
     ) -> Uploaded<J>;
+
+    /// The receipt of all entries, if there is memory for it. It tells them.
+    fn last<W: Wait>(&self, rt: &W, seen: &mut Front<Entry, J>) -> Result<Notice<J>, AllocError>;
 
     /// Reads the chunk of these bytes. Tells whether it has them, and how many calls have come to the gate by then.
     fn read<W: Wait>(&self, rt: &W, gate: &Gate, bytes: &[u8]) -> (bool, u64);
@@ -49,21 +60,28 @@ impl<
     T: Absorb<Notice<J>, State = [Entry; 0]> + Drop,
     R: Wait + Drop,
 > AskedDesk<J> for Desk<J, K, D, S, T, R> {
-    fn enter<W: Wait>(&self, rt: &W, seat: &mut Seat<J>, entry: Entry) -> Entered<J> {
+    fn enter<W: Wait>(
+        &self,
+        rt: &W,
+        seen: &mut Front<Entry, J>,
+        seat: &mut Seat<J>,
+        entry: Entry,
+    ) -> Entered<J> {
         match entry {
-            Entry::Change(command) => self.commit(rt, seat, command),
-            Entry::Undo { site, change } => self.undo(rt, seat, &site, change),
+            Entry::Change(command) => self.commit(rt, seen, seat, command),
+            Entry::Undo { site, change } => self.undo(rt, seen, seat, &site, change),
         }
     }
 
     fn upload<W: Wait>(
         &self,
         rt: &W,
+        seen: &mut Front<Entry, J>,
         seat: &mut Seat<J>,
         number: u64,
         upload: &Upload,
     ) -> Uploaded<J> {
-        let listed = match self.judge(rt, seat, &upload.site, number, &upload.path) {
+        let listed = match self.judge(rt, seen, seat, &upload.site, number, &upload.path) {
             Ok(listed) => listed,
             Err(why) => return Err(why),
         };
@@ -73,9 +91,15 @@ impl<
             return Err(UploadError::WrongDigest);
         }
         match self.store(rt, &LockedAccess, digest, bytes) {
-            Ok(known) => self.publish_if_ready(rt, known, seat, &upload.site, number),
+            Ok(mut known) => {
+                self.publish_if_ready(rt, seen, &mut known, seat, &upload.site, number)
+            }
             Err(fault) => Err(UploadError::NotStored(fault)),
         }
+    }
+
+    fn last<W: Wait>(&self, rt: &W, seen: &mut Front<Entry, J>) -> Result<Notice<J>, AllocError> {
+        self.shown(rt, seen)
     }
 
     fn read<W: Wait>(&self, rt: &W, gate: &Gate, bytes: &[u8]) -> (bool, u64) {

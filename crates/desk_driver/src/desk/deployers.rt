@@ -4,12 +4,11 @@ use crate::desk::asked::{AskedDesk, Entered, Uploaded};
 use crate::desk::scripts::{Task, Upload};
 use anyhow::{Result, anyhow};
 use blob_store::UploadFault;
-use change_undo::{Entry, Log};
+use change_log::Log;
 use host_names::{Digest, FilePath, SiteName};
 use seen_lists::Visitor;
-use shared_desk::UploadError;
-use site_change::{ChangeRefusal, Command};
-use site_desk::{DeskError, DeskName, HostSnap, Notice, Seat};
+use site_change::{ChangeRefusal, Command, Entry};
+use site_desk::{DeskError, DeskName, HostSnap, Notice, Seat, UploadError};
 use std::alloc::Global;
 use std::io::Print;
 use std::sync::Wait;
@@ -122,14 +121,18 @@ impl<J: DeskName> Deployer<J> {
 
     /// What the desk answers where this is to be its next entry.
     fn enter<A: AskedDesk<J>>(&mut self, rt: &impl Wait, desk: &A, entry: Entry) -> Told {
-        let answer = desk.enter(rt, &mut self.seat, entry);
+        let mut seen = self.reader.front();
+        let answer = desk.enter(rt, &mut seen, &mut self.seat, entry);
+        self.reader.learn_front(&seen);
         self.learn_answer(answer)
     }
 
     /// What it answers to an upload.
     fn upload<A: AskedDesk<J>>(&mut self, rt: &impl Wait, desk: &A, upload: &Upload) -> Told {
         let number = upload.number.unwrap_or(self.last);
-        let answer = desk.upload(rt, &mut self.seat, number, upload);
+        let mut seen = self.reader.front();
+        let answer = desk.upload(rt, &mut seen, &mut self.seat, number, upload);
+        self.reader.learn_front(&seen);
         self.learn_upload(answer)
     }
 
@@ -150,6 +153,19 @@ impl<J: DeskName> Deployer<J> {
     ) -> Result<()> {
         let told = self.answer(rt, desk, task);
         Ok(println!(rt; "deployer {} {told:?}", self.number)?)
+    }
+
+    /// The receipt that the desk hands out is of all entries that a look shows, and so is what it tells. It fails if not.
+    pub(crate) fn compare<A: AskedDesk<J>>(&mut self, rt: &impl Wait, desk: &A) -> Result<()> {
+        let mut seen = self.reader.front();
+        let Ok(receipt) = desk.last(rt, &mut seen) else {
+            return Err(anyhow!("a receipt has no memory"));
+        };
+        let shown = self.reader.front().len();
+        if receipt.number() != shown || seen.len() != shown {
+            return Err(anyhow!("the desk has other entries than it shows"));
+        }
+        Ok(())
     }
 
     /// Looks, and prints how many entries were made from the seat, whether `/a.txt` is served, and what all entries do.

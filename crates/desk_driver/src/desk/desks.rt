@@ -1,8 +1,9 @@
-//! A desk is opened over what is found on a disk and a shelf, and the lines are played at it.
+//! A desk is opened over what is found in a store, and the lines are played at it.
 ghost use Rattle.std.specs.Prelude.{◌≡◌, IfOk, IfSome};
 ghost use Rattle.shared_desk.specs.FoundFiles.{files_of};
 ghost use Rattle.shared_desk.specs.NewDesks.{AreNames};
 
+use crate::desk::Store;
 use crate::desk::deployers::Reader;
 use crate::desk::gates::{GatedDisk, GatedShelf};
 use crate::desk::played::{Play, play_and_close};
@@ -10,12 +11,13 @@ use crate::desk::scripts::DEPLOYERS;
 use anyhow::{Result, anyhow};
 use blob_store::Shelf;
 use byte_view::BlobInfo;
-use change_undo::{Entry, GREATEST_LIMIT};
+use change_undo::GREATEST_LIMIT;
 use found_host::Found;
 use host_disk::Disk;
 use left_right::Absorb;
 use seen_lists::ListName;
 use shared_desk::{Desk, NewDesk, open};
+use site_change::Entry;
 use site_desk::{DeskName, Notice, Seats};
 use std::alloc::{AllocError, Global};
 use std::io::Print;
@@ -96,11 +98,17 @@ fn play_anywhere<
     play_at::<Brand, Brand, D, S, &R, R>(rt, alloc, rt, what, new, found)
 }
 
-/// What is found on a disk and a shelf.
-fn find<D: Disk + Drop, S: Shelf + Drop>(alloc: Global, disk: D, shelf: S) -> Result<Found<D, S>>
+/// What is found in a store.
+fn find<D: Disk + Drop, S: Shelf + Drop>(alloc: Global, store: Store<D, S>) -> Result<Found<D, S>>
     ensures { IfOk result (λ found. found.limit ≡ 1000000) }
 {
-    match Found::open(alloc, disk, shelf, GREATEST_LIMIT) {
+    match Found::open(
+        alloc,
+        store.first,
+        store.second,
+        store.shelf,
+        GREATEST_LIMIT,
+    ) {
         Ok(found) => Ok(found),
         Err(stop) => Err(anyhow!("no host is found: {:?}", stop.fault)),
     }
@@ -146,14 +154,17 @@ fn play_found<
     }
 }
 
-/// Plays at the desk of what is found on a disk and a shelf, whose calls pass gates.
+/// Plays at the desk of what is found in a store, whose calls pass gates.
 pub(crate) fn play_in<
     D: Disk + Drop + Send,
     S: Shelf + Drop + Send,
     R: Threads + Wait + Print + Send + Sync,
->(rt: &R, alloc: Global, what: &Play<'_>, disk: D, shelf: S) -> Result<()> {
-    let disk = GatedDisk::new(disk, &what.gates.syncs);
-    let shelf = GatedShelf::new(shelf, &what.gates.puts);
-    play_found(rt, alloc, what, find(alloc, disk, shelf)?)?;
+>(rt: &R, alloc: Global, what: &Play<'_>, store: Store<D, S>) -> Result<()> {
+    let gated = Store {
+        first: GatedDisk::new(store.first, &what.gates.syncs),
+        second: GatedDisk::new(store.second, &what.gates.syncs),
+        shelf: GatedShelf::new(store.shelf, &what.gates.puts),
+    };
+    play_found(rt, alloc, what, find(alloc, gated)?)?;
     what.gates.tell(rt)
 }

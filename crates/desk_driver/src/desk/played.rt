@@ -40,7 +40,7 @@ fn deployers_of<J: DeskName>(
     Ok(deployers)
 }
 
-/// Plays a step: its deployer asks, and then looks.
+/// Plays a step: its deployer asks, looks, and compares that with what the desk has.
 fn play_step<J: DeskName, A: AskedDesk<J>, W: Wait + Print>(
     rt: &W,
     alloc: Global,
@@ -53,7 +53,8 @@ fn play_step<J: DeskName, A: AskedDesk<J>, W: Wait + Print>(
         return Err(anyhow!("there is no such deployer"));
     };
     deployer.ask(rt, desk, task)?;
-    deployer.look(rt, alloc)
+    deployer.look(rt, alloc)?;
+    deployer.compare(rt, desk)
 }
 
 /// Plays these steps, one after the other.

@@ -2,9 +2,9 @@
 //! or `last`, a path and a text, which is uploaded. docs/STORAGE.md describes the texts of entries.
 
 use anyhow::{Result, anyhow};
-use change_journal::decode;
-use change_undo::Entry;
+use entry_texts::decode;
 use host_names::{FilePath, SiteName};
+use site_change::Entry;
 use std::alloc::Global;
 
 /// How many deployers there are.

@@ -4,9 +4,9 @@
 use super::gates::assert_count;
 use super::node_fixtures::first_node;
 use super::peer_behaviors::wait_for_end;
-use blob_store::{Blobs, Files, LockedAccess, MemShelf};
+use blob_store::{AbsenceReceipt, Blobs, Files, LockedAccess, MemShelf, PutReceipt, ShelfAccess};
 use byte_view::BlobInfo;
-use chunk_group::{Counter, Group, SharedSource};
+use chunk_group::{Counter, Group, SharedSource, Source};
 use http_wire::{Pair, Reading, Writing};
 use operator_notices::{Kind, Notices};
 use peer_link::{LocalChunks, NoLink, Peer, TcpLink, serve_peer};
@@ -33,9 +33,7 @@ const MOST_SECONDS: u64 = 10;
 /// How many milliseconds a peer is passed over, and some more.
 const PASSED_OVER: u64 = 5_100;
 
-type ShelfSource<'a, R> = SharedSource<'a, R, MemShelf, LockedAccess>;
-
-type AskingNode<'s, 'l, R> = Group<DigestHash, ShelfSource<'s, R>, TcpLink<'l, R>, Counter>;
+type AskingNode<'l, R, S> = Group<DigestHash, S, TcpLink<'l, R>, Counter>;
 
 /// What the peer does.
 #[derive(Drop)]
@@ -100,9 +98,9 @@ fn serve<R: Wait, C: LocalChunks>(
 }
 
 /// How long a reply takes that has the whole file.
-fn time_reply<R: Net<Stream = TcpStream> + Clock + Wait>(
+fn time_reply<R: Net<Stream = TcpStream> + Clock + Wait, S: Source + Copy>(
     rt: &R,
-    node: &AskingNode<'_, '_, R>,
+    node: &AskingNode<'_, R, S>,
     info: &Arc<BlobInfo>,
 ) -> Result<Duration, Fail> {
     if info.len() != SIZE {
@@ -115,9 +113,9 @@ fn time_reply<R: Net<Stream = TcpStream> + Clock + Wait>(
 }
 
 /// How long a reply takes; asserts that it isn't too long.
-fn assert_reply<R: Net<Stream = TcpStream> + Clock + Wait + Abort>(
+fn assert_reply<R: Net<Stream = TcpStream> + Clock + Wait + Abort, S: Source + Copy>(
     rt: &R,
-    node: &AskingNode<'_, '_, R>,
+    node: &AskingNode<'_, R, S>,
     info: &Arc<BlobInfo>,
 ) -> Result<Duration, Fail> {
     let took = time_reply(rt, node, info)?;
@@ -126,9 +124,9 @@ fn assert_reply<R: Net<Stream = TcpStream> + Clock + Wait + Abort>(
 }
 
 /// Asserts that a reply takes at least a second less than one that took so long.
-fn assert_quicker<R: Net<Stream = TcpStream> + Clock + Wait + Abort>(
+fn assert_quicker<R: Net<Stream = TcpStream> + Clock + Wait + Abort, S: Source + Copy>(
     rt: &R,
-    node: &AskingNode<'_, '_, R>,
+    node: &AskingNode<'_, R, S>,
     info: &Arc<BlobInfo>,
     first: Duration,
 ) -> Result<(), Fail> {
@@ -156,10 +154,10 @@ fn assert_told(
 }
 
 /// Asserts what replies cost while the peer hangs, and that it is asked again once it answers.
-fn assert_replies<R: Net<Stream = TcpStream> + Clock + Wait + Abort>(
+fn assert_replies<R: Net<Stream = TcpStream> + Clock + Wait + Abort, S: Source + Copy>(
     rt: &R,
     alloc: Global,
-    node: &AskingNode<'_, '_, R>,
+    node: &AskingNode<'_, R, S>,
     info: &Arc<BlobInfo>,
     address: SocketAddr,
     notices: &Notices,
@@ -181,12 +179,13 @@ fn assert_replies<R: Net<Stream = TcpStream> + Clock + Wait + Abort>(
 fn assert_served<
     R: Net<Stream = TcpStream> + Clock + Threads + Wait + Abort + Sync,
     C: LocalChunks + Sync,
+    S: Source + Copy,
 >(
     rt: &R,
     alloc: Global,
     listener: &TcpListener,
     chunks: &C,
-    node: &AskingNode<'_, '_, R>,
+    node: &AskingNode<'_, R, S>,
     info: &Arc<BlobInfo>,
     notices: &Notices,
 ) -> Result<(), Fail> {
@@ -205,26 +204,36 @@ fn assert_served<
     })
 }
 
-/// Asserts this of a node and its peer over a shelf that has the file. Neither keeps a chunk.
+/// Asserts this of a node and its peer, which read the file from this source. Neither keeps a chunk.
 fn assert_over<
     'x,
     R: Net<Listener = TcpListener, Stream = TcpStream> + Clock + Threads + Wait + Abort + Sync,
->(
-    rt: &'x R,
-    alloc: Global,
-    files: &'x Mutex<Files<MemShelf>>,
-    access: &'x LockedAccess,
-    info: &Arc<BlobInfo>,
-) -> Result<(), Fail> {
+    S: Source + Copy + Send + Sync,
+>(rt: &'x R, alloc: Global, source: S, info: &Arc<BlobInfo>) -> Result<(), Fail> {
     let listener = TcpListener::bind(rt, "127.0.0.1:0")?;
     let address = listener.local_addr()?;
     let peers = [Peer::new(address), Peer::new(address)];
     let notices = Notices::new();
-    let source = SharedSource::new(rt, files, access);
     let link = TcpLink::new(alloc, rt, &peers, &notices);
     let node = first_node(alloc, 0, &NAMES, source, link)?;
     let peer = first_node(alloc, 0, &["node1"], source, NoLink)?;
     assert_served(rt, alloc, &listener, &peer, &node, info, &notices)
+}
+
+/// Asserts this over a shelf that has the file.
+fn assert_over_shelf<
+    R: Net<Listener = TcpListener, Stream = TcpStream> + Clock + Threads + Wait + Abort + Sync,
+    Q: ShelfAccess<MemShelf, U, N> + Sync,
+    U: PutReceipt + Drop + Send + Sync,
+    N: AbsenceReceipt + Drop + Send + Sync,
+>(
+    rt: &R,
+    alloc: Global,
+    files: &Mutex<Files<MemShelf>>,
+    access: &Q,
+    info: &Arc<BlobInfo>,
+) -> Result<(), Fail> {
+    assert_over(rt, alloc, SharedSource::new(rt, files, access), info)
 }
 
 /// A file, no two pieces of which are the same.
@@ -242,5 +251,5 @@ fn a_peer_that_hangs_costs_one_wait_and_is_asked_again(rt: HostRuntime) -> Resul
     let mut blobs = Blobs::new(alloc, MemShelf::new(alloc));
     let info = blobs.upload(file(alloc)?.as_slice())?;
     let files = Mutex::new(blobs.into_parts().1);
-    assert_over(&rt, alloc, &files, &LockedAccess, &info)
+    assert_over_shelf(&rt, alloc, &files, &LockedAccess, &info)
 }

@@ -26,8 +26,16 @@ pub(super) enum Behavior {
     Cut,
     /// It answers a fault.
     Fault,
+    /// It answers that it has no such chunk.
+    Absent,
+    /// It says something that is no answer, and closes.
+    Hello,
+    /// It answers a head that isn't one.
+    BadHead,
     /// It closes at once.
     Close,
+    /// It resets the connection, since it closes it before it has read the request.
+    Reset,
     /// It answers a byte every fifth of a second.
     Drip,
     /// It answers nothing.
@@ -38,14 +46,18 @@ pub(super) enum Behavior {
     Endless,
 }
 
-pub(super) const BEHAVIORS: [Behavior; 11] = [
+pub(super) const BEHAVIORS: [Behavior; 15] = [
     Behavior::Right,
     Behavior::Late,
     Behavior::Other,
     Behavior::Short,
     Behavior::Cut,
     Behavior::Fault,
+    Behavior::Absent,
+    Behavior::Hello,
+    Behavior::BadHead,
     Behavior::Close,
+    Behavior::Reset,
     Behavior::Drip,
     Behavior::Silent,
     Behavior::Long,
@@ -58,6 +70,23 @@ fn answer(alloc: Global, stream: &TcpStream, length: usize, bytes: &[u8]) -> io:
     let head = format!(in alloc; "HTTP/1.1 200 OK\r\nContent-Length: {length}\r\n\r\n")?;
     stream.write_all(head.as_bytes())?;
     stream.write_all(bytes)
+}
+
+/// The answer of a peer that always says the same.
+fn said_by(behavior: Behavior) -> &'static [u8] {
+    match behavior {
+        Behavior::Fault => b"HTTP/1.1 503 Service Unavailable\r\nContent-Length: 0\r\n\r\n",
+        Behavior::Absent => b"HTTP/1.1 404 Not Found\r\nContent-Length: 0\r\n\r\n",
+        Behavior::Hello => b"hello",
+        Behavior::BadHead => b"hello\r\n\r\n",
+        _ => b"",
+    }
+}
+
+/// Writes that.
+fn say(stream: &TcpStream, behavior: Behavior) -> io::Result<()> {
+    let mut stream = stream;
+    stream.write_all(said_by(behavior))
 }
 
 /// Writes a text again and again, until so many times or until the reader is gone.
@@ -124,11 +153,10 @@ fn tell<R: Clock>(
         }
         Behavior::Short => answer(alloc, stream, short.len(), short),
         Behavior::Cut => answer(alloc, stream, right.len(), short),
-        Behavior::Fault => {
-            let mut stream = stream;
-            stream.write_all(b"HTTP/1.1 503 Service Unavailable\r\nContent-Length: 0\r\n\r\n")
+        Behavior::Fault | Behavior::Absent | Behavior::Hello | Behavior::BadHead => {
+            say(stream, behavior)
         }
-        Behavior::Close => Ok(()),
+        Behavior::Close | Behavior::Reset => Ok(()),
         Behavior::Drip => repeat(rt, stream, b"H", 60, Duration::from_millis(200)),
         Behavior::Silent => wait_for_end(stream),
         Behavior::Long => {
@@ -137,6 +165,17 @@ fn tell<R: Clock>(
         }
         Behavior::Endless => answer_endlessly(rt, stream),
     }
+}
+
+/// Reads a request, or its first byte, or nothing.
+fn read_request(stream: &TcpStream, behavior: Behavior) {
+    let mut stream = stream;
+    let mut buf = [0; 512];
+    let _ = match behavior {
+        Behavior::Close => Ok(0),
+        Behavior::Reset => stream.read(&mut buf[..1]),
+        _ => stream.read(&mut buf),
+    };
 }
 
 /// Takes one connection, reads its request if it isn't closed at once, and does this with it.
@@ -152,9 +191,6 @@ pub(super) fn serve_one<R: Clock>(
         return;
     };
     calls.fetch_add(1, Ordering::SeqCst);
-    if behavior != Behavior::Close {
-        let mut buf = [0; 512];
-        let _ = (&stream).read(&mut buf);
-    }
+    read_request(&stream, behavior);
     let _ = tell(rt, alloc, &stream, behavior, number);
 }

@@ -3,8 +3,10 @@
 use super::fixtures::{bytes_of, is_chunk_of, names};
 use super::gates::assert_count;
 use super::node_fixtures::first_node;
-use blob_store::{BlobIndex, Files, LockedAccess, MemShelf};
-use chunk_group::{Counter, Group, SharedSource};
+use blob_store::{
+    AbsenceReceipt, BlobIndex, Files, LockedAccess, MemShelf, PutReceipt, ShelfAccess,
+};
+use chunk_group::{Counter, Group, SharedSource, Source};
 use chunk_reads::ReadFault;
 use host_names::Digest;
 use peer_link::NoLink;
@@ -20,9 +22,7 @@ use std::thread::Threads;
 /// How many chunks the shelf has. Reads are of one more.
 const CHUNKS: usize = 8;
 
-type ShelfSource<'a, R> = SharedSource<'a, R, MemShelf, LockedAccess>;
-
-type ShelfNode<'a, R> = Group<DigestHash, ShelfSource<'a, R>, NoLink, Counter>;
+type ShelfNode<S> = Group<DigestHash, S, NoLink, Counter>;
 
 /// A shelf with these chunks, each of which is a file.
 fn files(alloc: Global) -> Result<Files<MemShelf>, Fail> {
@@ -35,15 +35,15 @@ fn files(alloc: Global) -> Result<Files<MemShelf>, Fail> {
     Ok(files)
 }
 
-fn node<'a, R: Wait>(alloc: Global, source: ShelfSource<'a, R>) -> Result<ShelfNode<'a, R>, Fail> {
+fn node<S: Source + Copy>(alloc: Global, source: S) -> Result<ShelfNode<S>, Fail> {
     first_node(alloc, 10_000, &["node0"], source, NoLink)
 }
 
 /// Reads each chunk twice, and counts the right answers.
-fn visit<R: Wait>(
+fn visit<R: Wait, S: Source + Copy>(
     rt: &R,
     alloc: Global,
-    node: &ShelfNode<'_, R>,
+    node: &ShelfNode<S>,
     names: &[Digest],
     right: &AtomicU64,
 ) {
@@ -62,10 +62,10 @@ fn visit<R: Wait>(
 }
 
 /// A thread for each node. One that can't be made counts nothing.
-fn visit_both<R: Threads + Wait + Sync>(
+fn visit_both<R: Threads + Wait + Sync, S: Source + Copy + Send + Sync>(
     rt: &R,
     alloc: Global,
-    nodes: (&ShelfNode<'_, R>, &ShelfNode<'_, R>),
+    nodes: (&ShelfNode<S>, &ShelfNode<S>),
     names: &[Digest],
     right: &AtomicU64,
 ) {
@@ -77,11 +77,11 @@ fn visit_both<R: Threads + Wait + Sync>(
 }
 
 /// Reads through this node, and through another over the same shelf.
-fn visit_beside<R: Threads + Wait + Sync>(
+fn visit_beside<R: Threads + Wait + Sync, S: Source + Copy + Send + Sync>(
     rt: &R,
     alloc: Global,
-    source: ShelfSource<'_, R>,
-    first: &ShelfNode<'_, R>,
+    source: S,
+    first: &ShelfNode<S>,
     names: &[Digest],
     right: &AtomicU64,
 ) -> Result<(), Fail> {
@@ -91,10 +91,10 @@ fn visit_beside<R: Threads + Wait + Sync>(
 }
 
 /// Reads through two nodes over this shelf.
-fn visit_shelf<R: Threads + Wait + Sync>(
+fn visit_shelf<R: Threads + Wait + Sync, S: Source + Copy + Send + Sync>(
     rt: &R,
     alloc: Global,
-    source: ShelfSource<'_, R>,
+    source: S,
     names: &[Digest],
     right: &AtomicU64,
 ) -> Result<(), Fail> {
@@ -102,15 +102,15 @@ fn visit_shelf<R: Threads + Wait + Sync>(
     visit_beside(rt, alloc, source, &first, names, right)
 }
 
-fn assert_shared<R: Threads + Wait + Abort + Sync>(
-    rt: &R,
-    alloc: Global,
-    files: &Mutex<Files<MemShelf>>,
-) -> Result<(), Fail> {
+fn assert_shared<
+    R: Threads + Wait + Abort + Sync,
+    Q: ShelfAccess<MemShelf, U, N> + Sync,
+    U: PutReceipt + Drop + Send + Sync,
+    N: AbsenceReceipt + Drop + Send + Sync,
+>(rt: &R, alloc: Global, files: &Mutex<Files<MemShelf>>, access: &Q) -> Result<(), Fail> {
     let names = names(alloc, CHUNKS + 1)?;
     let right = AtomicU64::new(0);
-    let access = LockedAccess;
-    let source = SharedSource::new(rt, files, &access);
+    let source = SharedSource::new(rt, files, access);
     visit_shelf(rt, alloc, source, names.as_slice(), &right)?;
     assert_count(rt, &right, 36, "right answers");
     Ok(())
@@ -119,5 +119,5 @@ fn assert_shared<R: Threads + Wait + Abort + Sync>(
 #[test]
 fn nodes_that_share_a_shelf_read_it_by_turns(rt: HostRuntime) -> Result<(), Fail> {
     let files = Mutex::new(files(rt.alloc())?);
-    assert_shared(&rt, rt.alloc(), &files)
+    assert_shared(&rt, rt.alloc(), &files, &LockedAccess)
 }

@@ -1,11 +1,10 @@
 //! Entries by their numbers.
 ghost use Rattle.std.specs.Prelude.{◌≡◌, ◌≤◌, IfOk, length};
-ghost use Rattle.change_journal.specs.texts.Spells.{IsCommandInRange, IsInRange, IsNumber};
+ghost use Rattle.entry_texts.specs.Spells.{IsCommandInRange, IsInRange, IsNumber};
 
 use anyhow::Result;
-use change_undo::Entry;
 use host_names::{AliasName, Digest, FilePath, SiteName};
-use site_change::Command;
+use site_change::{Command, Entry};
 use site_state::{Listing, PathMap};
 use std::alloc::{AllocError, Global};
 

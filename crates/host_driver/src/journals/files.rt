@@ -1,16 +1,39 @@
 //! Journals in files.
 ghost use Rattle.std.specs.Prelude.{◌≡◌, ◌≤◌};
-ghost use Rattle.change_undo.specs.Logs.{last_number};
-ghost use Rattle.change_journal.specs.texts.Spells.{IsInRange};
+ghost use Rattle.change_log.specs.Logs.{last_number};
+ghost use Rattle.entry_texts.specs.Spells.{IsInRange};
 
 use crate::journals::entries::numbered;
 use anyhow::{Result, anyhow};
-use change_journal::{Journal, OpenFault, Prepared, prepare};
-use change_undo::{Entry, Log};
-use host_disk::{Disk, FileDisk};
+use change_journal::{Journal, Prepared, prepare};
+use change_log::Log;
+use host_disk::{Disk, FileDisk, LockedFolder};
+use record_file::OpenFault;
+use site_change::Entry;
 use std::alloc::{AllocError, Global};
-use std::path::PathBuf;
+use std::path::{Path, PathBuf};
 use std::time::{Duration, Instant};
+
+/// The disks of the two slots of a journal.
+#[derive(Drop)]
+struct Slots<D> {
+    first: D,
+    second: D,
+}
+
+/// Those of a journal in files: the first slot is the file at the path, and the name of the second one has `.2` behind it.
+fn slots_at<'a>(rt: &'a HostRuntime, path: &str) -> Result<Slots<FileDisk<'a, HostRuntime>>> {
+    let folder = match Path::new(path).parent() {
+        Some(parent) if !parent.as_str().is_empty() => parent.as_str(),
+        _ => ".",
+    };
+    let locked = LockedFolder::lock(rt, folder)?;
+    let beside = format!(in rt.alloc(); "{path}.2")?;
+    let first = PathBuf::from_str(rt.alloc(), path)?;
+    let second = PathBuf::from_str(rt.alloc(), beside.as_str())?;
+    let (first, second) = FileDisk::open_both(rt, locked, first, second)?;
+    Ok(Slots { first, second })
+}
 
 /// A journal that is open, and how many entries it has at most.
 #[derive(Drop)]
@@ -21,8 +44,8 @@ struct Filled<D: Disk> {
 }
 
 impl<D: Disk + Drop> Filled<D> {
-    fn open(alloc: Global, disk: D) -> Result<Filled<D>> {
-        match Journal::open(alloc, disk) {
+    fn open(alloc: Global, slots: Slots<D>) -> Result<Filled<D>> {
+        match Journal::open(alloc, slots.first, slots.second) {
             Ok((journal, log)) => Ok(Filled {
                 journal,
                 count: log.len(),
@@ -41,16 +64,16 @@ impl<D: Disk + Drop> Filled<D> {
     }
 }
 
-/// Puts an entry so often into the journal of a disk, and answers the time, in which it is also prepared.
+/// Puts an entry so often into the journal of two slots, and answers the time, in which it is also prepared.
 fn put_again<D: Disk + Drop>(
     rt: &HostRuntime,
-    disk: D,
+    slots: Slots<D>,
     entry: &Entry,
     times: u64,
 ) -> Result<Duration>
     requires { IsInRange entry.now }
 {
-    let mut journal = Filled::open(rt.alloc(), disk)?;
+    let mut journal = Filled::open(rt.alloc(), slots)?;
     let begun = Instant::now(rt)?;
     for _ in 0..times {
         journal.put(prepare(rt.alloc(), entry)?)?;
@@ -62,8 +85,7 @@ fn put_again<D: Disk + Drop>(
 pub(crate) fn put_same(rt: &HostRuntime, path: &str, entry: &Entry, times: u64) -> Result<Duration>
     requires { IsInRange entry.now }
 {
-    let disk = FileDisk::open(rt, PathBuf::from_str(rt.alloc(), path)?)?;
-    put_again(rt, disk, entry, times)
+    put_again(rt, slots_at(rt, path)?, entry, times)
 }
 
 /// Puts the entry of a number.
@@ -72,9 +94,9 @@ fn put_one<D: Disk + Drop>(rt: &HostRuntime, journal: &mut Filled<D>, number: u6
     journal.put(prepare(rt.alloc(), &entry)?)
 }
 
-/// Puts the entries of the numbers from 1 on into the journal of a disk.
-fn put_each<D: Disk + Drop>(rt: &HostRuntime, disk: D, entries: u64) -> Result<()> {
-    let mut journal = Filled::open(rt.alloc(), disk)?;
+/// Puts the entries of the numbers from 1 on into the journal of two slots.
+fn put_each<D: Disk + Drop>(rt: &HostRuntime, slots: Slots<D>, entries: u64) -> Result<()> {
+    let mut journal = Filled::open(rt.alloc(), slots)?;
     for number in 1..=entries {
         put_one(rt, &mut journal, number)?;
     }
@@ -83,8 +105,7 @@ fn put_each<D: Disk + Drop>(rt: &HostRuntime, disk: D, entries: u64) -> Result<(
 
 /// Opens a journal, and puts the entries of the numbers from 1 on.
 pub(crate) fn put_numbered(rt: &HostRuntime, path: &str, entries: u64) -> Result<()> {
-    let disk = FileDisk::open(rt, PathBuf::from_str(rt.alloc(), path)?)?;
-    put_each(rt, disk, entries)
+    put_each(rt, slots_at(rt, path)?, entries)
 }
 
 /// How many entries a log has, in words.
@@ -99,10 +120,10 @@ fn said_fault(alloc: Global, fault: OpenFault) -> Result<String, AllocError> {
     }
 }
 
-/// What is opened of a disk, and the time.
-fn open_disk<D: Disk + Drop>(rt: &HostRuntime, disk: D) -> Result<(String, Duration)> {
+/// What is opened of two slots, and the time.
+fn open_slots<D: Disk + Drop>(rt: &HostRuntime, slots: Slots<D>) -> Result<(String, Duration)> {
     let begun = Instant::now(rt)?;
-    match Journal::open(rt.alloc(), disk) {
+    match Journal::open(rt.alloc(), slots.first, slots.second) {
         Ok((_, log)) => {
             let took = begun.elapsed(rt)?;
             Ok((said(rt.alloc(), &log)?, took))
@@ -111,10 +132,10 @@ fn open_disk<D: Disk + Drop>(rt: &HostRuntime, disk: D) -> Result<(String, Durat
     }
 }
 
-/// How many entries the journal of a file has, or why it isn't opened, and the time of that.
+/// How many entries the journal at a path has, or why it isn't opened, and the time of that.
 pub(crate) fn open(rt: &HostRuntime, path: &str) -> Result<(String, Duration)> {
-    match FileDisk::open(rt, PathBuf::from_str(rt.alloc(), path)?) {
-        Ok(disk) => open_disk(rt, disk),
+    match slots_at(rt, path) {
+        Ok(slots) => open_slots(rt, slots),
         Err(_) => Ok((said_fault(rt.alloc(), OpenFault::Device)?, Duration::ZERO)),
     }
 }

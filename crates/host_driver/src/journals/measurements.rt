@@ -5,7 +5,7 @@ use crate::journals::entries::{cancelling, opening_text};
 use crate::journals::files::{open, put_numbered, put_same};
 use crate::numbers::{each, say, speed};
 use anyhow::{Result, anyhow};
-use change_journal::decode;
+use entry_texts::decode;
 use std::time::{Duration, Instant};
 
 /// What is to be done.

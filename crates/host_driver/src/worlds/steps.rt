@@ -1,10 +1,10 @@
 //! Steps, as words.
 use crate::worlds::requests::request_of;
 use anyhow::{Result, anyhow};
-use change_journal::decode;
-use change_undo::Entry;
 use chunk_lru::Which;
+use entry_texts::decode;
 use host_world::Step;
+use site_change::Entry;
 use std::alloc::Global;
 use world_node::Call;
 

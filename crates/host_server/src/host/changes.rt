@@ -1,6 +1,6 @@
 //! Commands, undos and publishes of a host, and what it then forgets of deploys.
 ghost use Rattle.std.specs.Prelude.{◌≡◌, false, IfOk, IsTrue, OnErr, OnOk};
-ghost use Rattle.change_undo.specs.declared.entries.Entry.TheVariants as entry;
+ghost use Rattle.site_change.specs.declared.entries.Entry.TheVariants as entry;
 ghost use Rattle.host_server.specs.Entries.{IsEntered, IsRefusedAs, IsUndoRefusedAs};
 ghost use Rattle.host_server.specs.Hosts.{Grows, next_number, with_entry};
 ghost use Rattle.host_server.specs.Journals.{Agrees, IsJournaled, IsStopped, is_broken};

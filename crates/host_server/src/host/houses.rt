@@ -4,9 +4,9 @@ ghost use Rattle.std.specs.FinMap as map;
 ghost use Rattle.host_names.specs.Digests.{digest_of};
 ghost use Rattle.site_change.specs.Refusals.{IsRefusedBy};
 ghost use Rattle.change_undo.specs.Histories.{IsUndoRefusedBy, run, marked_entry};
-ghost use Rattle.change_undo.specs.Logs.{empty_log};
+ghost use Rattle.change_log.specs.Logs.{empty_log};
 ghost use Rattle.change_undo.specs.SiteEntries.{numbers_of};
-ghost use Rattle.change_undo.specs.declared.entries.Entry.TheVariants as entry;
+ghost use Rattle.site_change.specs.declared.entries.Entry.TheVariants as entry;
 ghost use Rattle.host_server.specs.Entries.{IsEntered, IsRefusedAs, IsUndoRefusedAs};
 ghost use Rattle.change_undo.specs.Plans.{IsHistoryOver};
 ghost use Rattle.host_server.specs.Hosts.{Grows, host_of, state_of, next_number, with_entry, with_upload, IsLawful};
@@ -20,12 +20,13 @@ use super::readiness::Readiness;
 use blob_store::BlobIndex;
 use byte_view::BlobInfo;
 use change_journal::Journal;
+use change_log::Log;
 use change_undo::laws::deploys_were_opened_by_their_entries;
-use change_undo::{Entry, History, Log, SiteEntries};
+use change_undo::{History, SiteEntries};
 use host_disk::Disk;
 use host_names::SiteName;
 use journaled_history::{put_last, with_change, with_undo};
-use site_change::{ChangeError, Command};
+use site_change::{ChangeError, Command, Entry};
 use site_state::State;
 use std::alloc::{AllocError, Global};
 use std::marker::Model;
@@ -43,7 +44,7 @@ pub struct SoloHouse {
 
 impl Model for SoloHouse {
     ghost use Rattle.std.specs.Coded.{coded_list};
-    ghost use Rattle.change_undo.specs.contracts.entries.Entry as entry;
+    ghost use Rattle.site_change.specs.contracts.entries.Entry as entry;
     ghost use Rattle.blob_store.specs.contracts.blob_indexes.BlobIndex as known;
     ghost use Rattle.host_server.specs.Hosts.{Host, host_of, coded_host};
     ghost use Rattle.host_server.specs.Readiness.{IsKeptWith};

@@ -12,9 +12,9 @@ ghost use Rattle.range_spec.specs.declared.grammar.Asked.{Asked};
 ghost use Rattle.http_wire.specs.Requests.{RequestParts};
 ghost use Rattle.http_wire.specs.Timing.{AtEnd, Event, Steps, Timely};
 ghost use Rattle.site_change.specs.declared.commands.Command.{Command};
-ghost use Rattle.change_undo.specs.declared.entries.Entry.{Entry};
-ghost use Rattle.change_journal.specs.entries.Held.{Keeps};
-ghost use Rattle.change_journal.specs.entries.Texts.{AllStored};
+ghost use Rattle.site_change.specs.declared.entries.Entry.{Entry};
+ghost use Rattle.change_journal.specs.Held.{Keeps};
+ghost use Rattle.change_journal.specs.Texts.{AllStored};
 ghost use Rattle.found_host.specs.Openings.{IsNoRecordFault, IsOpenFault};
 ghost use Rattle.found_host.specs.declared.faults.OpenFault.TheVariants as open_fault;
 ghost use Rattle.host_api.specs.declared.bodies.Ask.TheVariants as ask;
@@ -104,7 +104,7 @@ pub fn wrong_changes_are_refused<D: Disk>()
     ensures put_in_vain { (old new : Keeps D) (entry : Entry) → new.broken ≡ false
         → ¬ (IsPutInVain D.Disk old entry new) }
     ensures kept { (old new : Keeps D) (entry : Entry) → IsTrue D.is_modelled
-        → ¬ (AllStored (D.may_leave new.disk) new.entries) → ¬ (IsPut D.Disk old entry new) }
+        → ¬ (AllStored (D.may_leave new.first) (D.may_leave new.second) new.entries) → ¬ (IsPut D.Disk old entry new) }
     ensures stopped { ¬ (IsStopped {A = ℕ} (Ok 0)) }
     ensures stops { (host next : Host) (site : SiteName) → ¬ (HostStops host (Ok (ask.Changes site)) next) }
     ensures command { (command : Command) (next : Host)
@@ -134,14 +134,15 @@ pub fn wrong_runs_are_refused<S: Shelf, D: Disk, X: Duplex>()
         → ¬ (IsCaughtUp (IsAnswer S.did S.failures) host [] (0 ∷ [])) }
     ensures interim { (parts : RequestParts) → ¬ (IsInterim parts (0 ∷ [])) }
     ensures head { (stream : Stream) → ¬ (IsHeadRefused stream []) }
-    ensures opened { (old : D) (shelf : S) (limit : ℕ) (server : Server S D D.Disk) → server.journal ≡ None
-        → ¬ (IsOpened S.did old shelf limit server) }
-    ensures open_fault { (old new : D) (shelf new_shelf : S) (limit : ℕ)
-        → IsOpenFault D.Disk S.did old shelf limit open_fault.JournalDevice new new_shelf
-        → D.faults new ≡ min (D.faults old + 1) (2 ^ 64 - 1) }
+    ensures opened { (first second : D) (shelf : S) (limit : ℕ) (server : Server S D D.Disk) → server.journal ≡ None
+        → ¬ (IsOpened S.did first second shelf limit server) }
+    ensures open_fault { (first second new_first new_second : D) (shelf new_shelf : S) (limit : ℕ)
+        → IsOpenFault D.Disk S.did first second shelf limit open_fault.JournalDevice new_first new_second new_shelf
+        → ((D.faults new_second ≡ D.faults second) × (D.faults new_first ≡ min (D.faults first + 1) (2 ^ 64 - 1)))
+        ⊎ ((D.faults new_first ≡ D.faults first) × (D.faults new_second ≡ min (D.faults second + 1) (2 ^ 64 - 1))) }
     ensures record_fault { ¬ (IsNoRecordFault open_fault.BadHeader) }
-    ensures store { (first : D) (shelf : S) (old new : X) (said new_said : Stream)
-        → ¬ (RunsStore D.Disk S.did S.failures X.Duplex ⊥ first shelf 1 old new said new_said) }
+    ensures store { (first second : D) (shelf : S) (old new : X) (said new_said : Stream)
+        → ¬ (RunsStore D.Disk S.did S.failures X.Duplex ⊥ first second shelf 1 old new said new_said) }
     ensures run { (words : List (List ℕ)) (old new : X) (said new_said : Stream)
         → ¬ (Runs ⟦<MemDisk as Disk>⟧ D.Disk S.Shelf X.Duplex ⊥ words 5 old new said new_said) }
     ensures held_back { (host : Server S D D.Disk) (old new : X) (said new_said : Stream)

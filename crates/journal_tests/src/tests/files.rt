@@ -1,10 +1,12 @@
-//! Files of journals by their hexadecimal digits, on disks in memory, and what is opened of them.
+//! Files of journals by their hexadecimal digits, on disks in memory, and what is opened of two slots.
 ghost use Rattle.std.specs.Prelude.{◌≡◌, ◌≤◌};
-ghost use Rattle.change_undo.specs.Logs.{last_number};
+ghost use Rattle.change_log.specs.Logs.{last_number};
 
 use change_journal::laws::an_entry_with_a_text_is_in_range;
-use change_journal::{Journal, OpenFault, Prepared, PutFault, decode, prepare};
+use change_journal::{Journal, Prepared, prepare};
+use entry_texts::decode;
 use host_disk::{Disk, LentDisk, MemDisk};
+use record_file::{OpenFault, PutFault};
 use std::alloc::Global;
 use std::process::Abort;
 use std::test::Fail;
@@ -26,6 +28,13 @@ fn bytes_on(alloc: Global, disk: &mut impl Disk) -> Result<Vec<u8>, Fail> {
     Ok(bytes)
 }
 
+/// The byte at a place of a disk.
+pub(crate) fn byte_at(disk: &mut impl Disk, at: usize) -> Result<u8, Fail> {
+    let mut byte = [0];
+    disk.read(at, &mut byte)?;
+    Ok(byte[0])
+}
+
 /// Makes these the bytes of an empty disk.
 fn fill(disk: &mut impl Disk, bytes: &[u8]) -> Result<(), Fail> {
     disk.write_at(0, bytes)?;
@@ -40,9 +49,13 @@ pub(crate) fn disk_of(alloc: Global, digits: &str) -> Result<MemDisk, Fail> {
     Ok(disk)
 }
 
-/// How many entries are opened of a lent disk.
-pub(crate) fn opened(alloc: Global, disk: &mut impl Disk) -> Result<u64, OpenFault> {
-    match Journal::open(alloc, LentDisk::new(disk)) {
+/// How many entries are opened of lent disks.
+pub(crate) fn opened<D: Disk>(
+    alloc: Global,
+    first: &mut D,
+    second: &mut D,
+) -> Result<u64, OpenFault> {
+    match Journal::open(alloc, LentDisk::new(first), LentDisk::new(second)) {
         Ok((_, log)) => Ok(log.len()),
         Err(stop) => Err(stop.fault),
     }
@@ -65,9 +78,9 @@ pub(crate) struct Filled<D: Disk + Drop> {
 }
 
 impl<D: Disk + Drop> Filled<D> {
-    /// Opens the journal of a disk.
-    pub(crate) fn open(alloc: Global, disk: D) -> Result<Filled<D>, OpenFault> {
-        match Journal::open(alloc, disk) {
+    /// Opens the journal of two slots.
+    pub(crate) fn open(alloc: Global, first: D, second: D) -> Result<Filled<D>, OpenFault> {
+        match Journal::open(alloc, first, second) {
             Ok((journal, log)) => Ok(Filled {
                 journal,
                 count: log.len(),

@@ -4,8 +4,9 @@ ghost use Rattle.std.specs.Prelude.{◌≡◌};
 
 use super::files::{Filled, assert_bytes, bytes_of, disk_of, opened, prepared};
 use change_journal::laws::an_entry_with_a_text_is_in_range;
-use change_journal::{OpenFault, decode, encode};
+use entry_texts::{decode, encode};
 use host_disk::{Disk, LentDisk, MemDisk};
+use record_file::OpenFault;
 use std::alloc::Global;
 use std::process::Abort;
 use std::test::Fail;
@@ -28,48 +29,67 @@ const ENTRIES: &str = "\
 08 03 6f6e65 0000000000000002
 09 03 6f6e65 0000000000010000";
 
-/// Three entries, a gate that isn't shut, and bytes after it.
-const FILE: &str = "\
+/// A file of version 1: three entries, a gate that isn't shut, and bytes after it.
+const OLD: &str = "\
 0146484a524e4c01 01 0000000d 03036f6e650000000000000001 01 00000015 06036f6e6500062f612e74787400062f632e747874 \
 01 0000000f 01036f6e65010000000100022f6100 07 0000000d 03";
 
-/// The same file after it was opened.
+/// The same in version 2.
+const FILE: &str = "\
+0146484a524e4c02 0000000000000001 01 0000000d 03036f6e650000000000000001 01 00000015 06036f6e6500062f612e74787400062f632e747874 \
+01 0000000f 01036f6e65010000000100022f6100 07 0000000d 03";
+
+/// That file after it was opened, and what an opening makes of the older one.
 const OPENED: &str = "\
-0146484a524e4c01 01 0000000d 03036f6e650000000000000001 01 00000015 06036f6e6500062f612e74787400062f632e747874 \
+0146484a524e4c02 0000000000000001 01 0000000d 03036f6e650000000000000001 01 00000015 06036f6e6500062f612e74787400062f632e747874 \
 01 0000000f 01036f6e65010000000100022f6100 00";
 
 /// The same after a removal of `/a.txt` and one of the alias `next` were put.
 const PUT: &str = "\
-0146484a524e4c01 01 0000000d 03036f6e650000000000000001 01 00000015 06036f6e6500062f612e74787400062f632e747874 \
+0146484a524e4c02 0000000000000001 01 0000000d 03036f6e650000000000000001 01 00000015 06036f6e6500062f612e74787400062f632e747874 \
 01 0000000f 01036f6e65010000000100022f6100 01 0000000d 07036f6e6500062f612e747874 01 0000000a 05036f6e65046e657874 00";
 
-/// Asserts what is opened of a disk that has `FILE`: its entries, or nothing, and then the disk is as before.
-fn assert_opened_or_kept(rt: &impl Abort, alloc: Global, disk: &mut MemDisk) -> Result<(), Fail> {
-    let outcome = opened(alloc, disk);
+/// Asserts what is opened of two slots, of which the first has this file: three entries, or nothing, and then the slots are as before.
+fn assert_opened_or_kept(
+    rt: &impl Abort,
+    alloc: Global,
+    first: &mut MemDisk,
+    second: &mut MemDisk,
+    file: &str,
+) -> Result<(), Fail> {
+    let outcome = opened(alloc, first, second);
     if outcome == Err(OpenFault::OutOfMemory) {
-        return assert_bytes(rt, alloc, disk, FILE);
+        assert_bytes(rt, alloc, first, file)?;
+        return assert_bytes(rt, alloc, second, "");
     }
     assert_eq!(rt; outcome, Ok(3));
     Ok(())
 }
 
-/// Asserts that so many entries are opened of a disk, which then has these bytes.
+/// Asserts that so many entries are opened of two slots, which then have these bytes.
 fn assert_opened(
     rt: &impl Abort,
     alloc: Global,
-    disk: &mut MemDisk,
+    first: &mut MemDisk,
+    second: &mut MemDisk,
     count: u64,
-    digits: &str,
+    wanted: (&str, &str),
 ) -> Result<(), Fail> {
-    assert_eq!(rt; opened(alloc, disk)?, count);
-    assert_bytes(rt, alloc, disk, digits)
+    assert_eq!(rt; opened(alloc, first, second)?, count);
+    assert_bytes(rt, alloc, first, wanted.0)?;
+    assert_bytes(rt, alloc, second, wanted.1)
 }
 
 #[test]
 fn an_opening_without_memory_writes_nothing(rt: HostRuntime) -> Result<(), Fail> {
-    let mut disk = disk_of(rt.alloc(), FILE)?;
-    assert_opened_or_kept(&rt, rt.alloc(), &mut disk)?;
-    assert_opened(&rt, rt.alloc(), &mut disk, 3, OPENED)
+    let alloc = rt.alloc();
+    for (file, wanted) in [(FILE, (OPENED, "")), (OLD, (OLD, OPENED))] {
+        let mut first = disk_of(alloc, file)?;
+        let mut second = disk_of(alloc, "")?;
+        assert_opened_or_kept(&rt, alloc, &mut first, &mut second, file)?;
+        assert_opened(&rt, alloc, &mut first, &mut second, 3, wanted)?;
+    }
+    Ok(())
 }
 
 /// The text of the entry that these bytes spell.
@@ -97,16 +117,21 @@ fn put<D: Disk + Drop>(alloc: Global, journal: &mut Filled<D>, digits: &str) -> 
     Ok(journal.put(entry)?)
 }
 
-/// Opens a disk and puts two entries.
-fn put_both(alloc: Global, disk: &mut MemDisk) -> Result<(), Fail> {
-    let mut journal = Filled::open(alloc, LentDisk::new(disk))?;
+/// Opens two slots and puts two entries.
+fn put_both(alloc: Global, first: &mut MemDisk, second: &mut MemDisk) -> Result<(), Fail> {
+    let mut journal = Filled::open(alloc, LentDisk::new(first), LentDisk::new(second))?;
     put(alloc, &mut journal, "07036f6e6500062f612e747874")?;
     put(alloc, &mut journal, "05036f6e65046e657874")
 }
 
 #[test]
 fn memory_for_entries_that_are_put(rt: HostRuntime) -> Result<(), Fail> {
-    let mut disk = disk_of(rt.alloc(), FILE)?;
-    put_both(rt.alloc(), &mut disk)?;
-    assert_opened(&rt, rt.alloc(), &mut disk, 5, PUT)
+    let alloc = rt.alloc();
+    for (file, wanted) in [(FILE, (PUT, "")), (OLD, (OLD, PUT))] {
+        let mut first = disk_of(alloc, file)?;
+        let mut second = disk_of(alloc, "")?;
+        put_both(alloc, &mut first, &mut second)?;
+        assert_opened(&rt, alloc, &mut first, &mut second, 5, wanted)?;
+    }
+    Ok(())
 }

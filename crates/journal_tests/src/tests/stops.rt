@@ -1,10 +1,13 @@
 //! A device that fails at each call of an opening and of a put, and what is opened afterwards; and one that is full.
 ghost use Rattle.std.specs.Prelude.{◌≡◌};
 
+use super::crashes::Slot;
 use super::failing_disk::{FailingDisk, Fails, Leaves};
 use super::files::{Filled, assert_bytes, bytes_of, disk_of, opened, prepared};
-use change_journal::{Journal, OpenFault, Prepared, PutFault};
+use super::opened_slots::halves;
+use change_journal::{Journal, Prepared};
 use host_disk::{LentDisk, MemDisk};
+use record_file::{OpenFault, PutFault};
 use std::alloc::Global;
 use std::process::Abort;
 use std::test::Fail;
@@ -20,11 +23,6 @@ enum Stage {
     Nothing,
     /// Something that isn't a failing device, or an answer in its place.
     Wrong,
-}
-
-/// The two halves of a text.
-fn halves<'a>(text: &'a str, separator: &str) -> Result<(&'a str, &'a str), Fail> {
-    Ok(text.split_once(separator).ok_or("a text has two halves")?)
 }
 
 /// Whether a journal is broken, and refuses an entry for that.
@@ -45,11 +43,55 @@ fn put_two(
     }
 }
 
+/// The disks of both slots.
+#[derive(Drop)]
+struct Disks {
+    first: FailingDisk<MemDisk>,
+    second: FailingDisk<MemDisk>,
+}
+
+/// The files of two slots, and how the device of one of them fails: how many calls, and what the first of these leaves.
+#[derive(Clone, Copy)]
+struct Case<'a> {
+    first: &'a str,
+    second: &'a str,
+    slot: Slot,
+    fails: Fails,
+    leaves: Leaves,
+}
+
+impl Case<'_> {
+    /// The disks, of which the one fails after so many calls.
+    fn disks(&self, alloc: Global, before: usize) -> Result<Disks, Fail> {
+        let (one, other) = match self.slot {
+            Slot::First => (before, usize::MAX),
+            Slot::Second => (usize::MAX, before),
+        };
+        let (first, second) = (disk_of(alloc, self.first)?, disk_of(alloc, self.second)?);
+        Ok(Disks {
+            first: FailingDisk::new(first, one, self.fails, self.leaves),
+            second: FailingDisk::new(second, other, self.fails, self.leaves),
+        })
+    }
+
+    /// How many calls the disk that fails was asked for.
+    fn calls(&self, disks: &Disks) -> usize {
+        match self.slot {
+            Slot::First => disks.first.calls(),
+            Slot::Second => disks.second.calls(),
+        }
+    }
+}
+
 /// Opens the journal, and puts an entry.
-fn run(alloc: Global, disk: &mut FailingDisk<MemDisk>, text: &[u8]) -> Result<Stage, Fail> {
+fn run(alloc: Global, disks: &mut Disks, text: &[u8]) -> Result<Stage, Fail> {
     let entry = prepared(alloc, text)?;
     let again = prepared(alloc, text)?;
-    match Filled::open(alloc, LentDisk::new(disk)) {
+    let (first, second) = (
+        LentDisk::new(&mut disks.first),
+        LentDisk::new(&mut disks.second),
+    );
+    match Filled::open(alloc, first, second) {
         Ok(mut journal) => Ok(put_two(&mut journal, entry, again)),
         Err(OpenFault::Device) => Ok(Stage::Opening),
         Err(fault) => Err(Fail::from(fault)),
@@ -66,32 +108,25 @@ fn assert_calls(rt: &impl Abort, calls: usize, before: usize, stage: Stage) {
 fn stopped(
     rt: &impl Abort,
     alloc: Global,
-    file: &str,
+    case: &Case<'_>,
     before: usize,
-    fails: Fails,
-    leaves: Leaves,
 ) -> Result<(Stage, u64), Fail> {
     let text = bytes_of(alloc, CANCEL)?;
-    let mut disk = FailingDisk::new(disk_of(alloc, file)?, before, fails, leaves);
-    let stage = run(alloc, &mut disk, text.as_slice())?;
-    assert_calls(rt, disk.calls(), before, stage);
-    disk.mend();
-    Ok((stage, opened(alloc, &mut disk)?))
+    let mut disks = case.disks(alloc, before)?;
+    let stage = run(alloc, &mut disks, text.as_slice())?;
+    assert_calls(rt, case.calls(&disks), before, stage);
+    disks.first.mend();
+    disks.second.mend();
+    Ok((stage, opened(alloc, &mut disks.first, &mut disks.second)?))
 }
 
 /// What becomes of an opening and a put, where the device fails after each number of calls: how many entries are opened
 /// afterwards, for the calls of the opening and then for those of the put.
-fn told_stops(
-    rt: &impl Abort,
-    alloc: Global,
-    file: &str,
-    fails: Fails,
-    leaves: Leaves,
-) -> Result<String, Fail> {
+fn told_stops(rt: &impl Abort, alloc: Global, case: &Case<'_>) -> Result<String, Fail> {
     let mut text = String::new(alloc);
     let mut last = Stage::Opening;
     for before in 0..1_000 {
-        let (stage, entries) = stopped(rt, alloc, file, before, fails, leaves)?;
+        let (stage, entries) = stopped(rt, alloc, case, before)?;
         if stage != last {
             write!(text, " {stage:?}")?;
             last = stage;
@@ -104,47 +139,86 @@ fn told_stops(
     Err(Fail::from("an opening and a put have too many calls"))
 }
 
-/// Files, and how many entries they have: one that was being made, none, one that is new, one without a tail, and two with one.
-const FILES: &str = "\
-00 46484a524e4c01 01 ffff | 0
- | 0
-0246484a524e4c01 00 | 0
-0146484a524e4c01 01 0000000d 03036f6e650000000000000001 01 0000000d 03036f6e650000000000000002 00 | 2
-0146484a524e4c01 01 0000000d 03036f6e650000000000000001 07 0000000d 03036f6e650000000000000002 00 | 1
-0146484a524e4c01 01 0000000d 03036f6e650000000000000001 00 ffffffffffffffff | 1";
+/// The files of both slots, how many entries they have, and to which slot the next one is put: some that were being made, none, one that is
+/// new, and in each version one without a tail and one with one.
+const SLOTS: &str = "\
+00 46484a524e4c02 0000000000000001 01 ffff / | 0 Second
+ / | 0 Second
+01 / 00 46484a | 0 Second
+0146484a524e4c01 00 / | 0 Second
+ / 0146484a524e4c01 00 | 0 First
+0146484a524e4c01 01 0000000d 03036f6e650000000000000001 01 0000000d 03036f6e650000000000000002 00 / | 2 Second
+0146484a524e4c01 01 0000000d 03036f6e650000000000000001 07 0000000d 03036f6e650000000000000002 00 / | 1 Second
+0146484a524e4c02 0000000000000001 01 0000000d 03036f6e650000000000000001 07 0000000d 03036f6e650000000000000002 00 / | 1 First
+ / 0146484a524e4c02 0000000000000001 01 0000000d 03036f6e650000000000000001 00 ffffffffffffffff | 1 Second";
 
-/// Asserts that each number of a text is this one. There is a space before each.
+/// Asserts that each number of a text is this one.
 fn assert_each(rt: &impl Abort, text: &str, number: &str) {
-    let is_each = text.trim().split(' ').all(|word| word == number);
+    let is_each = text.split(' ').all(|word| word == number);
     assert!(rt; is_each, "{text}");
 }
 
-/// Asserts that a failure at any call of an opening leaves the entries, and that one at a call of a put leaves them or has the new
-/// one too: from the third call on, which opens the gate, where that is done, and else at the fourth.
+/// Asserts that a failure at any call of an opening leaves the entries, and that one at a call of a put, if it is made to this slot, leaves
+/// them or has the new one too: from the third call on, which opens the gate, where that is done, and else at the fourth.
 fn assert_stops(
+    rt: &impl Abort,
+    alloc: Global,
+    case: &Case<'_>,
+    had: u64,
+    is_put: bool,
+) -> Result<(), Fail> {
+    let text = told_stops(rt, alloc, case)?;
+    let (stops, end) = halves(text.as_str(), " Nothing")?;
+    let next = had.saturating_add(1);
+    let third = if case.leaves == Leaves::All {
+        next
+    } else {
+        had
+    };
+    let each = format!(in alloc; "{had}")?;
+    let last = format!(in alloc; "{next}")?;
+    assert_eq!(rt; end, last.as_str());
+    if !is_put {
+        assert_each(rt, stops, each.as_str());
+        return Ok(());
+    }
+    let (opening, putting) = halves(stops, " Putting")?;
+    let wanted = format!(in alloc; "{had} {had} {third} {next}")?;
+    assert_each(rt, opening, each.as_str());
+    assert_eq!(rt; putting, wanted.as_str());
+    Ok(())
+}
+
+/// Asserts what a device leaves that fails so many calls and leaves this, for slots that a row names.
+fn assert_row(
     rt: &impl Abort,
     alloc: Global,
     row: &str,
     fails: Fails,
     leaves: Leaves,
 ) -> Result<(), Fail> {
-    let (file, had) = halves(row, " | ")?;
-    let text = told_stops(rt, alloc, file, fails, leaves)?;
-    let (opening, rest) = halves(text.as_str(), " Putting")?;
-    assert_each(rt, opening, had);
-    let had = had.parse::<u64>()?;
-    let next = had.saturating_add(1);
-    let third = if leaves == Leaves::All { next } else { had };
-    let wanted = format!(in alloc; " {had} {had} {third} {next} Nothing {next}")?;
-    assert_eq!(rt; rest, wanted.as_str(), "{row}");
+    let (files, counts) = halves(row, "|")?;
+    let (first, second) = halves(files, "/")?;
+    let (had, put) = halves(counts, " ")?;
+    for slot in [Slot::First, Slot::Second] {
+        let case = Case {
+            first,
+            second,
+            slot,
+            fails,
+            leaves,
+        };
+        let is_put = (slot == Slot::First) == (put == "First");
+        assert_stops(rt, alloc, &case, had.parse::<u64>()?, is_put)?;
+    }
     Ok(())
 }
 
 /// Asserts what a device leaves that fails so many calls.
 fn assert_all_stops(rt: &impl Abort, alloc: Global, fails: Fails) -> Result<(), Fail> {
-    for row in FILES.lines() {
+    for row in SLOTS.lines() {
         for leaves in [Leaves::Nothing, Leaves::Half, Leaves::Junk, Leaves::All] {
-            assert_stops(rt, alloc, row, fails, leaves)?;
+            assert_row(rt, alloc, row, fails, leaves)?;
         }
     }
     Ok(())
@@ -173,16 +247,25 @@ fn assert_refused(
     Ok(())
 }
 
-/// Asserts that a journal is broken, and that its file has no entries.
+/// Asserts that a journal is broken, and that its file in the second slot has no entries.
 fn assert_broken(rt: &impl Abort, alloc: Global, journal: Journal<MemDisk>) -> Result<(), Fail> {
     assert!(rt; journal.is_broken());
-    assert_bytes(rt, alloc, &mut journal.into_disk(), "0146484a524e4c01 00")
+    let (mut first, mut second) = journal.into_disk();
+    assert_bytes(rt, alloc, &mut first, "")?;
+    assert_bytes(
+        rt,
+        alloc,
+        &mut second,
+        "0146484a524e4c02 0000000000000001 00",
+    )
 }
 
 #[test]
 fn a_full_disk_breaks_the_journal(rt: HostRuntime) -> Result<(), Fail> {
     let alloc = rt.alloc();
-    let mut journal = Filled::open(alloc, MemDisk::new(alloc, 26)?)?;
+    let first = MemDisk::new(alloc, 34)?;
+    let second = MemDisk::new(alloc, 34)?;
+    let mut journal = Filled::open(alloc, first, second)?;
     assert_refused(&rt, alloc, &mut journal, PutFault::Device)?;
     assert_refused(&rt, alloc, &mut journal, PutFault::Broken)?;
     assert_broken(&rt, alloc, journal.into_journal())

@@ -1,8 +1,7 @@
 //! Which files the entries of a journal want.
 use super::files::disk_of;
 use change_journal::Journal;
-use change_undo::Log;
-use host_disk::MemDisk;
+use change_log::Log;
 use host_opening::wanted;
 use std::alloc::{AllocError, Global};
 use std::test::Fail;
@@ -31,9 +30,9 @@ fn told(alloc: Global, log: &Log) -> Result<String, AllocError> {
     Ok(text)
 }
 
-/// What the entries want that are opened of a disk.
-fn told_of(alloc: Global, disk: MemDisk) -> Result<String, Fail> {
-    match Journal::open(alloc, disk) {
+/// What the entries want that are opened of a file in the first slot.
+fn told_of(alloc: Global, file: &str) -> Result<String, Fail> {
+    match Journal::open(alloc, disk_of(alloc, file)?, disk_of(alloc, "")?) {
         Ok((_, log)) => Ok(told(alloc, &log)?),
         Err(stop) => Err(Fail::from(stop.fault)),
     }
@@ -41,7 +40,7 @@ fn told_of(alloc: Global, disk: MemDisk) -> Result<String, Fail> {
 
 #[test]
 fn files_of_published_deploys_must_be_there(rt: HostRuntime) -> Result<(), Fail> {
-    let text = told_of(rt.alloc(), disk_of(rt.alloc(), FILE)?)?;
+    let text = told_of(rt.alloc(), FILE)?;
     assert_eq!(rt; text.as_str(), WANTED);
     Ok(())
 }

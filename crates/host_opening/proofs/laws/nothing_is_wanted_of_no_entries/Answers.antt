@@ -1,8 +1,8 @@
 use Rattle.std.proofs.Common.{◌≡◌, ◌⊎◌, inl, inr, ℕ, ◌-◌, ◌==◌, true, false, cond, slice_get, List, [], ◌∷◌, ◌++◌, Some, None, sym, refl, ◌∙◌, arith}
 use Rattle.host_names.specs.declared.names.SiteName.{SiteName}
 use Rattle.site_change.specs.declared.commands.Command.TheVariants.{Publish, Restore}
-use Rattle.change_undo.specs.declared.entries.Entry.{Entry}
-use Rattle.change_undo.specs.declared.entries.Entry.TheVariants.{Change}
+use Rattle.site_change.specs.declared.entries.Entry.{Entry}
+use Rattle.site_change.specs.declared.entries.Entry.TheVariants.{Change}
 use Rattle.change_undo.specs.Histories.{entry_at}
 use Rattle.host_opening.proofs.laws.nothing_is_wanted_of_no_entries.Goals as goal
 

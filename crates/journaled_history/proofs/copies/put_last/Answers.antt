@@ -1,8 +1,10 @@
-use Rattle.std.proofs.Common.{rules, ◌≡◌, Some, inr, refl, subst, ◌∙◌}
-use Rattle.change_undo.specs.Logs.{entry_at}
-use Rattle.change_undo.specs.declared.entries.Entry.{Entry as Line}
+use Rattle.std.proofs.Common.{rules, ◌≡◌, Err, Some, ap, inr, refl, sym, subst, ◌∙◌}
+use Rattle.std.proofs.lemmas.Bool.{false≢true}
+use Rattle.change_log.specs.Logs.{entry_at}
+use Rattle.site_change.specs.declared.entries.Entry.{Entry as Line}
 use Rattle.journaled_history.specs.Puts.{IsPut, IsPutInVain}
 use Rattle.journaled_history.proofs.LastEntries.{last_of}
+use Rattle.journaled_history.proofs.PutFaults.{failed}
 use Rattle.journaled_history.proofs.copies.put_last.Goals as goal
 
 pub returns-in-Ok-clause-put : goal.returns-in-Ok-clause-put
@@ -41,6 +43,6 @@ returns-in-Err-clause-fault g c =
             entries = c.in-Err.ensures.entries;
             broken = c.in-Err.ensures.broken;
             moments = λ modelled. c.in-Err.ensures.any_moment modelled c.requires.whole;
-            cause = search rules;
+            cause = failed _ _ _ _ _ (λ told. false≢true (sym c.requires.whole ∙ c.in-Err.ensures.only_broken (ap Err told))) c.in-Err.ensures.cause;
           }),
     )

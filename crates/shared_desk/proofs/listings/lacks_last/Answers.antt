@@ -1,7 +1,6 @@
-use Rattle.std.proofs.Common.{◌≡◌, ◌-◌, ◌∙◌, ℕ, List, Some, Option, IsSome, length, slice_get, ap, sym, subst}
+use Rattle.std.proofs.Common.{◌≡◌, ◌-◌, ◌∙◌, ℕ, Some, Option, length, slice_get, sym, subst}
 use Rattle.host_names.specs.declared.digests.Digest.{Digest}
 use Rattle.site_state.specs.Files.{Paths}
-use Rattle.site_state.specs.Missing.{if_lacking}
 use Rattle.shared_desk.proofs.LastLacking.{lacks_at}
 use Rattle.shared_desk.proofs.listings.lacks_last.Goals as goal
 

@@ -7,6 +7,6 @@ use Rattle.shared_desk.proofs.uploading.tie_with.Goals as goal
 
 pub returns-in-Ok-clause-known : goal.returns-in-Ok-clause-known
 returns-in-Ok-clause-known g c =
-    let bytes = c.args.file.value in
+    let bytes = c.args.file.info.value in
     let is : c.tie.result ≡ with_file c.args.stock.now bytes = search rules in
     subst (λ (files : Contents). IsSome (map.get files (digest_of bytes))) (sym is) (known-with_file c.args.stock.now bytes)

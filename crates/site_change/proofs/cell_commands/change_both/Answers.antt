@@ -4,7 +4,7 @@ use Rattle.std.specs.declared.cmp.Ordering.TheVariants.{Less}
 use Rattle.host_names.specs.Cells.{cell_cmp}
 use Rattle.host_names.specs.CellOrder.{cell_cmp_total}
 use Rattle.site_state.specs.States.{State}
-use Rattle.persistent_collections.proofs.Entries.{less_back}
+use Rattle.persistent_maps.proofs.Entries.{less_back}
 use Rattle.site_change.specs.Plans.{IsDifference}
 use Rattle.site_change.proofs.Deciding.{swapped}
 use Rattle.site_change.proofs.cell_commands.change_both.Goals as goal

@@ -1,6 +1,6 @@
 use Rattle.std.proofs.Common.{◌≡◌, drop}
 use Rattle.host_names.specs.Cells.{cell_cmp}
-use Rattle.persistent_collections.specs.Edits.{edited_by}
+use Rattle.persistent_maps.specs.Edits.{edited_by}
 use Rattle.site_state.specs.Changes.{writes}
 use Rattle.site_state.proofs.changes.written_in_turn.Given as goal
 

@@ -1,5 +1,5 @@
 use Rattle.std.proofs.Common.{◌<◌, ◌≤◌, sym, ap, ◌∙◌, length, arith}
-use Rattle.change_undo.specs.Logs.{Log}
+use Rattle.change_log.specs.Logs.{Log}
 use Rattle.world_desk.specs.Sights.{seen}
 use Rattle.world_desk.proofs.Changing.{change_past, change_written}
 use Rattle.world_desk.proofs.visitors.show_to.Goals as goal

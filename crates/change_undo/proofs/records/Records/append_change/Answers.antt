@@ -1,8 +1,8 @@
 use Rattle.std.proofs.Common.{ℕ, ◌+◌, List, [], ◌∷◌, ◌++◌, length, false, Some, arith, refl, sym, ap, subst, ◌∙◌}
 use Rattle.std.proofs.lemmas.List.{length-append}
 use Rattle.site_change.specs.declared.plans.Plan.{Plan}
-use Rattle.change_undo.specs.declared.entries.Entry.{Entry}
-use Rattle.change_undo.specs.declared.entries.Entry.TheVariants as entry
+use Rattle.site_change.specs.declared.entries.Entry.{Entry}
+use Rattle.site_change.specs.declared.entries.Entry.TheVariants as entry
 use Rattle.change_undo.specs.declared.marks.Mark.{Mark}
 use Rattle.change_undo.specs.Indexed.{IsIndexOf}
 use Rattle.change_undo.specs.PlannedEntries.{PlannedEntry, with_marks}

@@ -3,11 +3,12 @@ use Rattle.site_state.specs.Changes.{writes}
 use Rattle.site_state.specs.States.{with_cells}
 use Rattle.site_state.specs.declared.changes.Change.{Change as CellChange}
 use Rattle.site_state.specs.declared.changes.Side.TheVariants.{Before}
-use Rattle.change_undo.specs.declared.entries.Entry.{Entry}
-use Rattle.change_undo.specs.declared.entries.Entry.TheVariants as entry
+use Rattle.site_change.specs.declared.entries.Entry.{Entry}
+use Rattle.site_change.specs.declared.entries.Entry.TheVariants as entry
 use Rattle.change_undo.specs.declared.marks.Mark.{Mark}
 use Rattle.change_undo.specs.Indexed.{IsIndexOf}
-use Rattle.change_undo.specs.Kept.{AreWritable, changes_of, plan_at}
+use Rattle.change_log.specs.Appending.{AreWritable}
+use Rattle.change_undo.specs.Kept.{changes_of, plan_at}
 use Rattle.change_undo.specs.PlannedEntries.{PlannedEntry, entries_of, marks_of, plan_in, with_marks, with_undone}
 use Rattle.change_undo.proofs.Chains.{chained-after}
 use Rattle.change_undo.proofs.Indexed.{indexed-other}

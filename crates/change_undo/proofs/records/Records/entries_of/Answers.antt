@@ -1,5 +1,5 @@
 use Rattle.std.proofs.Common.{List, reverse, arith, sym, ap, ◌∙◌}
-use Rattle.change_undo.specs.declared.entries.Entry.{Entry}
+use Rattle.site_change.specs.declared.entries.Entry.{Entry}
 use Rattle.change_undo.specs.PlannedEntries.{entries_of}
 use Rattle.change_undo.specs.SiteEntries.{numbers_of}
 use Rattle.change_undo.specs.SiteIndexes.{last_of}

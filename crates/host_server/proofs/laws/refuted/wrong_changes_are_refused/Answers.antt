@@ -1,6 +1,6 @@
 use Rattle.std.proofs.Common.{◌≡◌, inl, inr, List, [], ◌∷◌, Option, Some, None, true, false, ap, sym, ◌∙◌, arith}
-use Rattle.change_journal.specs.entries.Held.{Keeps}
-use Rattle.change_undo.specs.declared.entries.Entry.{Entry}
+use Rattle.change_journal.specs.Held.{Keeps}
+use Rattle.site_change.specs.declared.entries.Entry.{Entry}
 use Rattle.host_disk.specs.declared.disks.Disk.{Ghosts}
 use Rattle.host_replies.specs.Replies.{Answer}
 use Rattle.host_server.specs.Journals.{Puts}

@@ -41,11 +41,12 @@ returns-clause-head g c stream (inl (new, large, sent)) = none_sent (refused_ans
 returns-clause-head g c stream (inr (new, text, takes, bad, sent)) = none_sent (refused_answer (Head BadHead)) sent
 
 pub returns-clause-opened : goal.returns-clause-opened
-returns-clause-opened g c old shelf limit server none is = absurd (cc (sym none ∙ is.is))
+returns-clause-opened g c first second shelf limit server none is = absurd (cc (sym none ∙ is.is))
 
 pub returns-clause-open_fault : goal.returns-clause-open_fault
-returns-clause-open_fault g c old new shelf new_shelf limit (inl (is, same)) = is.0
-returns-clause-open_fault g c old new shelf new_shelf limit (inr (journal, has, new_is, is)) = absurd is
+returns-clause-open_fault g c first second new_first new_second shelf new_shelf limit (inl ((inl told, spared), same)) = inl (told.0, told.1.0 refl)
+returns-clause-open_fault g c first second new_first new_second shelf new_shelf limit (inl ((inr told, spared), same)) = inr (told.0, told.1.0 refl)
+returns-clause-open_fault g c first second new_first new_second shelf new_shelf limit (inr (journal, has, first_is, second_is, is)) = absurd is
 
 ended_so : (ended : Result (Unit {0}) ConnectionFault) → (◌≡◌ {A = ℕ} 1 (if is_ok ended then 0 else 2) → ⊥) × (◌≡◌ {A = ℕ} 5 (if is_ok ended then 0 else 2) → ⊥)
 ended_so (Ok done) = ((λ e. absurd (cc e)), (λ e. absurd (cc e)))
@@ -62,16 +63,16 @@ not_opened_so fault.BlobsDevice = ((λ e. absurd (cc e)), (λ e. absurd (cc e)))
 not_opened_so fault.OutOfMemory = ((λ e. absurd (cc e)), (λ e. absurd (cc e)))
 
 pub returns-clause-store : goal.returns-clause-store
-returns-clause-store g c first shelf old new said new_said (inl (start, opened, served)) = (ended_so served.ended).0 served.says
-returns-clause-store g c first shelf old new said new_said (inr (why, last, last_shelf, is, says, same)) = (not_opened_so why).0 says.0
+returns-clause-store g c first second shelf old new said new_said (inl (start, opened, served)) = (ended_so served.ended).0 served.says
+returns-clause-store g c first second shelf old new said new_said (inr (why, last_first, last_second, last_shelf, is, says, same)) = (not_opened_so why).0 says.0
 
 pub returns-clause-run : goal.returns-clause-run
 returns-clause-run g c words old new said new_said (inl (inl (none, status, text), same)) = absurd (cc status)
 returns-clause-run g c words old new said new_said (inl (inr (status, text), same)) = absurd (cc status)
 returns-clause-run g c words old new said new_said (inr (inl (asks, inl (start, empty, served)))) = (ended_so served.ended).1 served.says
 returns-clause-run g c words old new said new_said (inr (inl (asks, inr ((status, text), same)))) = absurd (cc status)
-returns-clause-run g c words old new said new_said (inr (inr (folder, asks, inl (name, (first, there, inl (start, opened, served)))))) = (ended_so served.ended).1 served.says
-returns-clause-run g c words old new said new_said (inr (inr (folder, asks, inl (name, (first, there, inr (why, last, last_shelf, is, says, same)))))) = (not_opened_so why).1 says.0
+returns-clause-run g c words old new said new_said (inr (inr (folder, asks, inl (name, (first, second, there, inl (start, opened, served)))))) = (ended_so served.ended).1 served.says
+returns-clause-run g c words old new said new_said (inr (inr (folder, asks, inl (name, (first, second, there, inr (why, last_first, last_second, last_shelf, is, says, same)))))) = (not_opened_so why).1 says.0
 returns-clause-run g c words old new said new_said (inr (inr (folder, asks, inr (why, is, says, same)))) = (not_opened_so why).1 says.0
 
 pub returns-clause-held_back : goal.returns-clause-held_back

@@ -23,8 +23,8 @@ returns-clause-empty g c = λ has server limit none nothing. record {
 }
 
 pub returns-clause-opened : goal.returns-clause-opened
-returns-clause-opened g c = λ honest has old shelf limit server keeps so is.
-    opened_known g.S.Shelf.did g.S.Shelf.failures honest has keeps old shelf limit server so is
+returns-clause-opened g c = λ honest has first second shelf limit server keeps so is.
+    opened_known g.S.Shelf.did g.S.Shelf.failures honest has keeps first second shelf limit server so is
 
 pub returns-clause-kept : goal.returns-clause-kept
 returns-clause-kept g c = λ honest has old new parts body answer keeps so agrees known is.

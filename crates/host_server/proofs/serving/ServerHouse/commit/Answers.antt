@@ -1,6 +1,6 @@
 use Rattle.std.proofs.Common.{ap, ◌∙◌}
 use Rattle.change_undo.specs.Histories.{entry_at}
-use Rattle.change_undo.specs.declared.entries.Entry.TheVariants.{Change}
+use Rattle.site_change.specs.declared.entries.Entry.TheVariants.{Change}
 use Rattle.host_server.specs.Hosts.{Host}
 use Rattle.host_server.proofs.Entering.{entry_shown}
 use Rattle.host_server.proofs.serving.ServerHouse.commit.Goals as goal

@@ -1,11 +1,15 @@
-use Rattle.std.specs.Prelude.{IsSome}
-use Rattle.byte_view.specs.Contents.{Contents}
-use Rattle.site_state.specs.Missing.{AreMissing, least_missing_of}
-use Rattle.shared_desk.proofs.Some.{if_ok, on_err}
+use Rattle.std.proofs.Common.{rules, ◌≡◌, Result, Ok, Err, subst}
+use Rattle.std.specs.Prelude.{OnErr}
+use Rattle.byte_view.specs.Contents.{AreDigested, Contents}
 use Rattle.shared_desk.proofs.desks.Desk.missing.Goals as goal
 
-pub returns-clause-lacking : goal.returns-clause-lacking
-returns-clause-lacking g c = if_ok c.missing.result (λ (known : Contents) digests. AreMissing known c.args.files.now.1 digests.items) _ c.missing.ensures.exactly
+-- what holds anyway holds of an error
+on_err : {A E : Type 0} (result : Result A E) (P : Type 0) → P → OnErr result P
+on_err (Ok value) P is = tt
+on_err (Err why) P is = is
 
-pub returns-clause-memory : goal.returns-clause-memory
-returns-clause-memory g c = on_err c.missing.result (λ (known : Contents). IsSome (least_missing_of known c.args.files.now.1)) _ c.missing.ensures.memory
+pub returns-in_err-digests-clause-memory : goal.returns-in_err-digests-clause-memory
+returns-in_err-digests-clause-memory g c =
+    let same : c.index.result.now ≡ c.index-2.result.now = search rules in
+    let digested = subst (λ (known : Contents). AreDigested known) same c.uploads_are_digested.ensures in
+    on_err c.from_residual.result _ (c.index-2.result.now, digested, c.in_err-digests.ensures.memory)

@@ -3,7 +3,7 @@ use Rattle.std.proofs.lemmas.Fn.{always_returns_same}
 use Rattle.std.specs.Cmp.Lexicographic.{slice_cmp, nat_list_cmp_total}
 use Rattle.std.specs.Ordering.{nat_cmp}
 use Rattle.site_state.specs.Files.{at_path}
-use Rattle.persistent_collections.proofs.Entries.{find_at, gap_from_search, find_in_gap}
+use Rattle.persistent_maps.proofs.Entries.{find_at, gap_from_search, find_in_gap}
 use Rattle.site_state.proofs.paths.PathMap.get.Goals as goal
 
 -- the closure compares an entry's path with the one that is sought

@@ -1,7 +1,7 @@
 use Rattle.std.proofs.Common.{ap, sym, ◌∙◌, filter}
 use Rattle.std.specs.FinMap.{entries, entries-from_sorted}
 use Rattle.host_names.specs.Cells.{cell_cmp}
-use Rattle.persistent_collections.proofs.Entries.{is_sorted-from}
+use Rattle.persistent_maps.proofs.Entries.{is_sorted-from}
 use Rattle.site_state.specs.States.{is_alias_of}
 use Rattle.site_state.proofs.states.State.aliases.Goals as goal
 

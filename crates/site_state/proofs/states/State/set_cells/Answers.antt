@@ -1,7 +1,7 @@
 use Rattle.std.proofs.Common.{◌≡◌, List, Option, OnOk, subst}
 use Rattle.host_names.specs.Cells.{cell_cmp}
 use Rattle.host_names.specs.declared.cells.Cell.{Cell}
-use Rattle.persistent_collections.specs.Edits.{edited_by}
+use Rattle.persistent_maps.specs.Edits.{edited_by}
 use Rattle.site_state.specs.Changes.{writes}
 use Rattle.site_state.specs.States.{with_cells}
 use Rattle.site_state.specs.declared.values.Value.{Value}

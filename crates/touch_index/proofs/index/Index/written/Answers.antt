@@ -1,7 +1,7 @@
 use Rattle.std.proofs.Common.{◌==◌, ◌&&◌, Bool, List, Option, cond, is_some, ap, sym, subst, ◌∙◌}
 use Rattle.std.specs.List.Sorted.{IsStrictlySortedBy}
 use Rattle.std.specs.Map.{keys_of}
-use Rattle.persistent_collections.specs.Edits.{edited_by}
+use Rattle.persistent_maps.specs.Edits.{edited_by}
 use Rattle.touch_index.specs.declared.postings.Posting.{Posting}
 use Rattle.touch_index.specs.Keys.{touched_keys}
 use Rattle.touch_index.specs.Postings.{Postings, posting_cmp, edits, is_among, is_posted}

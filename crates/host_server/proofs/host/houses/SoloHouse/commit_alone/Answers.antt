@@ -4,7 +4,7 @@ use Rattle.host_server.specs.Reasons.{commit_refusal}
 use Rattle.site_change.specs.Refusals.{IsRefusedBy}
 use Rattle.host_server.proofs.Reached.{reached_by_history}
 use Rattle.host_server.proofs.Refusing.{refused_as_kept}
-use Rattle.change_undo.specs.declared.entries.Entry.TheVariants.{Change}
+use Rattle.site_change.specs.declared.entries.Entry.TheVariants.{Change}
 use Rattle.host_server.proofs.Growing.{grows_past, same_entries}
 use Rattle.host_server.proofs.host.houses.SoloHouse.commit_alone.Goals as goal
 

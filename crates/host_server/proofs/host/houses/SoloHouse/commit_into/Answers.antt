@@ -1,7 +1,7 @@
 use Rattle.std.proofs.Common.{ℕ, List, rules, sym, ap, subst, ◌∙◌}
-use Rattle.change_undo.specs.Logs.{with_entry}
-use Rattle.change_undo.specs.declared.entries.Entry.{Entry}
-use Rattle.change_undo.specs.declared.entries.Entry.TheVariants.{Change}
+use Rattle.change_log.specs.Logs.{with_entry}
+use Rattle.site_change.specs.declared.entries.Entry.{Entry}
+use Rattle.site_change.specs.declared.entries.Entry.TheVariants.{Change}
 use Rattle.host_server.specs.Hosts.{Host}
 use Rattle.host_server.specs.Readiness.{AreReached}
 use Rattle.host_server.proofs.Committing.{put_missed, put_whole}

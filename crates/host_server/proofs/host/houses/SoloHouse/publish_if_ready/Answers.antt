@@ -1,6 +1,6 @@
 use Rattle.std.proofs.Common.{rules, ◌∙◌}
 use Rattle.site_change.specs.declared.commands.Command.TheVariants.{Publish}
-use Rattle.change_undo.specs.declared.entries.Entry.TheVariants.{Change}
+use Rattle.site_change.specs.declared.entries.Entry.TheVariants.{Change}
 use Rattle.host_server.proofs.Journaling.{entered_err}
 use Rattle.host_server.proofs.host.houses.SoloHouse.publish_if_ready.Goals as goal
 

@@ -4,7 +4,7 @@ use Rattle.host_server.specs.Reasons.{undo_refusal}
 use Rattle.host_server.proofs.Kept.{kept_by_undo}
 use Rattle.host_server.proofs.Reached.{reached_by_history}
 use Rattle.change_undo.specs.Histories.{IsUndoRefusedBy}
-use Rattle.change_undo.specs.declared.entries.Entry.TheVariants.{Undo}
+use Rattle.site_change.specs.declared.entries.Entry.TheVariants.{Undo}
 use Rattle.host_server.proofs.Growing.{grows_past, same_entries}
 use Rattle.host_server.proofs.host.houses.SoloHouse.undo_alone.Goals as goal
 

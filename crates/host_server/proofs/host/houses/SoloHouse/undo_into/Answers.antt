@@ -1,7 +1,7 @@
 use Rattle.std.proofs.Common.{◌≡◌, ℕ, List, None, rules, sym, ap, subst, ◌∙◌}
-use Rattle.change_undo.specs.Logs.{with_entry}
-use Rattle.change_undo.specs.declared.entries.Entry.{Entry}
-use Rattle.change_undo.specs.declared.entries.Entry.TheVariants.{Undo}
+use Rattle.change_log.specs.Logs.{with_entry}
+use Rattle.site_change.specs.declared.entries.Entry.{Entry}
+use Rattle.site_change.specs.declared.entries.Entry.TheVariants.{Undo}
 use Rattle.host_server.specs.Hosts.{Host}
 use Rattle.host_server.specs.Readiness.{AreReached}
 use Rattle.host_server.specs.Reasons.{undo_refusal}

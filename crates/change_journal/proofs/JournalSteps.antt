@@ -1,0 +1,73 @@
+-- What a put leaves of a journal.
+use Rattle.std.proofs.Common.{◌≡◌, ◌⊎◌, ℕ, ◌+◌, ◌≤◌, Bool, IsTrue, false, true, refl, sym, subst, List, [], ◌∷◌, ◌++◌, length, ◌∙◌, ap, arith, length-append, All}
+use Rattle.std.proofs.lemmas.Bool.{false≢true}
+use Rattle.std.proofs.lemmas.List.Elements.{All-push}
+use Rattle.site_change.specs.declared.entries.Entry.{Entry}
+use Rattle.record_file.specs.declared.slots.Slots.{Slots}
+use Rattle.record_file.specs.Pairs.{ArePaired, BothLeave, Order, first_of, order_of, second_of}
+use Rattle.change_journal.specs.Held.{IsSound}
+use Rattle.entry_texts.specs.Spells.{IsWritable, entry_text}
+use Rattle.change_journal.specs.Texts.{AllStored, HoldsEntries, IsRecordOf, LeavesNext, MayHoldMore, MayHoldNext, texts}
+use Rattle.entry_texts.proofs.Entries.{entry_length}
+use Rattle.record_file.proofs.NotWhole.{framed_size}
+use Rattle.record_file.proofs.PairSteps.{paired_reads}
+use Rattle.change_journal.proofs.Entrywise.{next_holds, texts-push}
+
+pub record_length : (entry : Entry) (bytes : List ℕ) → IsRecordOf entry bytes → (5 ≤ length bytes) × (length bytes ≤ 10470075)
+record_length entry bytes spelled =
+    let size : length bytes ≡ 4 + length (entry_text entry ++ 0 ∷ []) = ap length spelled.is ∙ framed_size (entry_text entry) (0 ∷ []) in (
+      omega (arith, size, length-append (entry_text entry) (0 ∷ [])),
+      omega (arith, size, length-append (entry_text entry) (0 ∷ []), entry_length entry spelled.writable),
+    )
+
+module _ {D : Type 0} (moment : D → ℕ) (left_since : D → ℕ → List ℕ → Type 0) (may_leave : D → List ℕ → Type 0) where
+  -- what is settled is stored
+  pub all_stored : (slots : Slots D) (entries : List Entry) → All IsWritable entries → ArePaired may_leave slots (texts entries) → AllStored (may_leave (first_of slots)) (may_leave (second_of slots)) entries
+  all_stored slots entries writable paired = λ a b here there. record { writable = writable; shut = paired_reads may_leave slots (texts entries) paired a b here there }
+
+  -- while an entry is put after others
+  pub next_moments : (order : Order) (first second new_first new_second : D) (entries : List Entry) (entry : Entry) → All IsWritable entries → IsWritable entry → BothLeave moment left_since order (texts entries) (entry_text entry) first second new_first new_second → (o : Order) × LeavesNext moment left_since o entries entry first second new_first new_second
+  next_moments order first second new_first new_second entries entry writable lawful run = (order, record { writable = All-push IsWritable entries entry writable lawful; leaves = run })
+
+  pub held_moments : (order : Order) (first second new_first new_second : D) (entries : List Entry) (entry : Entry) → All IsWritable entries → IsWritable entry → BothLeave moment left_since order (texts entries) (entry_text entry) first second new_first new_second
+      → (a b : List ℕ) → left_since new_first (moment first) a → left_since new_second (moment second) b → HoldsEntries entries a b ⊎ HoldsEntries (entries ++ entry ∷ []) a b
+  held_moments order first second new_first new_second entries entry writable lawful run = λ a b here there.
+      next_holds order entries entry a b (All-push IsWritable entries entry writable lawful) (run.one.each a here) (run.other.each b there)
+
+  module _ (counts : (d : D) (t : ℕ) (c : List ℕ) → t ≤ moment d → may_leave d c → left_since d t c) where
+    -- what a crash leaves after a put that the device failed
+    pub torn_after : (order : Order) (first second new_first new_second : D) (entries : List Entry) (entry : Entry) → All IsWritable entries → IsWritable entry → BothLeave moment left_since order (texts entries) (entry_text entry) first second new_first new_second → MayHoldMore (may_leave new_first) (may_leave new_second) entries
+    torn_after order first second new_first new_second entries entry writable lawful run = record {
+      next = entry;
+      order = order;
+      left = record {
+        writable = All-push IsWritable entries entry writable lawful;
+        one = λ c left. run.one.each c (counts new_first (moment first) c run.one.later left);
+        other = λ c left. run.other.each c (counts new_second (moment second) c run.other.later left);
+      };
+    }
+
+    -- the same of one that was refused, where an earlier one had failed
+    pub torn_put : (old new : Slots D) (entries : List Entry) (entry : Entry) → All IsWritable entries → IsWritable entry → (old.records.broken ≡ true → MayHoldMore (may_leave (first_of old)) (may_leave (second_of old)) entries) → (old.records.broken ≡ true → new ≡ old)
+        → (old.records.broken ≡ false → BothLeave moment left_since (order_of old.turned) (texts entries) (entry_text entry) (first_of old) (second_of old) (first_of new) (second_of new)) → MayHoldMore (may_leave (first_of new)) (may_leave (second_of new)) entries
+    torn_put old new entries entry writable lawful was same run = by_case old.records.broken refl
+      where
+        by_case : (broken : Bool) → old.records.broken ≡ broken → MayHoldMore (may_leave (first_of new)) (may_leave (second_of new)) entries
+        by_case true is = subst (λ (s : Slots D). MayHoldMore (may_leave (first_of s)) (may_leave (second_of s)) entries) (sym (same is)) (was is)
+        by_case false is = torn_after (order_of old.turned) (first_of old) (second_of old) (first_of new) (second_of new) entries entry writable lawful (run is)
+
+-- a journal with the entry that was put
+pub sound_with : {D : Type 0} (modelled : Bool) (may_leave : D → List ℕ → Type 0) (old new : Slots D) (entries more : List Entry) (entry : Entry)
+    → more ≡ entries ++ entry ∷ [] → All IsWritable entries → IsWritable entry → old.records.position.count ≡ length entries → new.records.position.count ≡ old.records.position.count + 1 → new.records.broken ≡ false → (old.records.broken ≡ true → new ≡ old)
+    → (IsTrue modelled → old.records.broken ≡ false → ArePaired may_leave old (texts entries)) → (IsTrue modelled → ArePaired may_leave old (texts entries) → ArePaired may_leave new (texts entries ++ entry_text entry ∷ [])) → IsSound modelled may_leave new more
+sound_with {D} modelled may_leave old new entries more entry more_is writable lawful count next whole same settled settles = record {
+  writable = subst (All IsWritable) (sym more_is) (All-push IsWritable entries entry writable lawful);
+  count = omega (arith, next, count, ap length more_is, length-append entries (entry ∷ []));
+  settled = λ is_modelled still.
+      subst (λ (bodies : List (List ℕ)). ArePaired may_leave new bodies) (sym (ap texts more_is ∙ texts-push entries entry)) (settles is_modelled (settled is_modelled (was_whole old.records.broken refl)));
+  torn = λ is_modelled broken. absurd (false≢true (sym whole ∙ broken));
+}
+  where
+    was_whole : (broken : Bool) → old.records.broken ≡ broken → old.records.broken ≡ false
+    was_whole true is = absurd (false≢true (sym whole ∙ ap (λ (s : Slots D). s.records.broken) (same is) ∙ is))
+    was_whole false is = is

@@ -1,0 +1,4 @@
+pub mod Entrywise
+mod HeldLists
+mod JournalSteps
+mod OpenedJournals

@@ -1,4 +1,0 @@
-mod Entrywise
-mod HeldLists
-mod JournalSteps
-mod OpenedJournals

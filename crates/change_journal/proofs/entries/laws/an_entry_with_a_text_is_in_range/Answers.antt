@@ -1,5 +1,0 @@
-use Rattle.change_journal.proofs.texts.Entries.{in_range}
-use Rattle.change_journal.proofs.entries.laws.an_entry_with_a_text_is_in_range.Goals as goal
-
-pub returns : goal.returns
-returns c = in_range

@@ -1,5 +1,0 @@
-use Rattle.change_journal.proofs.entries.HeldLists.{finds_before}
-use Rattle.change_journal.proofs.entries.laws.an_opening_ends_at_a_gate_that_is_not_open.Goals as goal
-
-pub returns : goal.returns
-returns c = finds_before

@@ -1,4 +1,0 @@
-use Rattle.change_journal.proofs.file.read_ahead.ReadAheadDisk.cut.Goals as goal
-
-pub returns-clause-torn : goal.returns-clause-torn
-returns-clause-torn g c modelled = rw c.forget.ensures.disk at (c.cut.ensures.torn modelled)

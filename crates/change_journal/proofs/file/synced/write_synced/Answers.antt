@@ -1,4 +1,0 @@
-use Rattle.change_journal.proofs.file.synced.write_synced.Goals as goal
-
-pub returns-clause-durable : goal.returns-clause-durable
-returns-clause-durable g c modelled = rw (c.sync.ensures.seen modelled) (c.sync.ensures.durable modelled)

@@ -1,0 +1,61 @@
+-- Which entries the two slots of a journal hold, whatever a crash leaves of them.
+use Rattle.std.specs.Prelude.{◌≡◌, ℕ, List, [], ◌∷◌, ◌++◌, map, All}
+use Rattle.change_log.specs.Logs.{Log, with_entry}
+use Rattle.site_change.specs.declared.entries.Entry.{Entry}
+use Rattle.record_file.specs.Frames.{framed}
+use Rattle.record_file.specs.Openings.{IsExactly}
+use Rattle.record_file.specs.Slots.{AllStale}
+use Rattle.record_file.specs.Pairs.{BothLeave, HoldBoth, LeftOfFirst, LeftOfSecond, Order, ReadsShut}
+use Rattle.entry_texts.specs.Spells.{IsWritable, entry_text}
+
+-- the texts of the entries of a log
+abbrev pub texts : Log → List (List ℕ)
+texts log = map entry_text log
+
+-- the text of an entry behind its length, and the gate of the next record, which is shut
+pub record IsRecordOf (entry : Entry) (bytes : List ℕ) : Type 0 where
+  pub writable : IsWritable entry
+  pub is : bytes ≡ framed (entry_text entry) ++ 0 ∷ []
+
+-- bytes are the text of an entry
+abbrev pub IsText : List ℕ → Type 0
+IsText body = (entry : Entry) × (IsWritable entry × (body ≡ entry_text entry))
+
+-- Two slots hold the entries of a log. In the slot in use with the greater generation their texts are behind open gates, and then comes a 0, or a
+-- gate that is neither with one whole record of any body and a 0 behind it; or neither slot is in use, and there are none.
+pub record HoldsEntries (log : Log) (first second : List ℕ) : Type 0 where
+  pub writable : All IsWritable log
+  pub holds : HoldBoth (texts log) first second
+
+-- they hold these entries, with a gate of 0 after them
+pub record IsStored (log : Log) (first second : List ℕ) : Type 0 where
+  pub writable : All IsWritable log
+  pub shut : ReadsShut (texts log) first second
+
+-- whatever a crash leaves of the one slot and of the other, these entries are stored
+abbrev pub AllStored : (List ℕ → Type 0) → (List ℕ → Type 0) → Log → Type 0
+AllStored first second log = (a b : List ℕ) → first a → second b → IsStored log a b
+
+-- What a stop may leave of two slots of this order while an entry is put after these, or while they are opened. The slot that is read has these,
+-- with a 0 and any bytes behind them; or with the record of that entry whole behind a gate that is neither 0 nor open; or these and that entry. The
+-- other slot isn't read beside it, or has the file of the next generation, with these or those. Or neither is in use, and there are none.
+pub record MayHoldNext (order : Order) (log : Log) (entry : Entry) (first second : List ℕ → Type 0) : Type 0 where
+  pub writable : All IsWritable (with_entry log entry)
+  pub one : (c : List ℕ) → first c → LeftOfFirst order (texts log) (entry_text entry) c
+  pub other : (c : List ℕ) → second c → LeftOfSecond order (texts log) (entry_text entry) c
+
+-- a crash at any moment since leaves that
+pub record LeavesNext {D : Type 0} (moment : D → ℕ) (left_since : D → ℕ → List ℕ → Type 0) (order : Order) (log : Log) (entry : Entry) (first second new_first new_second : D) : Type 0 where
+  pub writable : All IsWritable (with_entry log entry)
+  pub leaves : BothLeave moment left_since order (texts log) (entry_text entry) first second new_first new_second
+
+-- what a put that the device failed may have left: there is one entry more, and whatever a crash leaves is what a stop may leave while it is put
+pub record MayHoldMore (first second : List ℕ → Type 0) (log : Log) : Type 0 where
+  pub next : Entry
+  pub order : Order
+  pub left : MayHoldNext order log next first second
+
+-- one of two slots reads as this file, and a crash leaves nothing else of it; whatever a crash leaves of the other one, that isn't read
+pub data IsOne (file seen_first : List ℕ) (first : List ℕ → Type 0) (seen_second : List ℕ) (second : List ℕ → Type 0) : Type 0 where
+  in_first : IsExactly file seen_first first → AllStale 1 second → IsOne file seen_first first seen_second second
+  in_second : IsExactly file seen_second second → AllStale 1 first → IsOne file seen_first first seen_second second

@@ -1,4 +1,0 @@
--- the entries that a file holds
-pub mod Texts
-pub mod Files
-pub mod Held

@@ -1,0 +1,79 @@
+use Rattle.std.proofs.Common.{rules, ◌≡◌, ◌≢◌, ◌↔◌, ◌<◌, length}
+use Rattle.blob_store.specs.declared.blobs.UploadFault.TheVariants.{TooLarge}
+use Rattle.host_names.specs.Digests.{digest_of}
+use Rattle.change_log.specs.Logs.{last_number}
+use Rattle.shared_house.specs.HouseLaws.{stays}
+use Rattle.desk_seats.proofs.Turns.{asked_first, asked_last, listed, lists, not_published, published, stops}
+use Rattle.desk_seats.proofs.seated_desks.SeatedDeskDeskAccess.upload.Goals as goal
+
+pub returns-in-Err-clause-asked : goal.returns-in-Err-clause-asked
+returns-in-Err-clause-asked g c =
+    let (made, judged) = c.in-Err.ensures.judged in
+    asked_first g.D.Disk (last_number g.J.ListName.found) _ c.judge.new.seen c.args.site.now c.args.deploy c.args.path.now c.args.bytes.now c.in-Err.why judged
+
+pub returns-in-Err-clause-answer : goal.returns-in-Err-clause-answer
+returns-in-Err-clause-answer g c =
+    let (made, judged) = c.in-Err.ensures.judged in
+    let seen = c.judge.new.seen in
+    (seen, c.in-Err.ensures.later, stays seen, stops g.D.Disk _ seen c.args.site.now c.args.deploy c.args.path.now c.args.bytes.now c.in-Err.why judged)
+
+pub returns-then-ne-clause-answer : goal.returns-then-ne-clause-answer
+returns-then-ne-clause-answer g c =
+    let (made, judged) = c.in-Ok.ensures.judged in
+    let seen = c.judge.new.seen in
+    let differ : c.in-Ok.listed ≢ digest_of c.args.bytes.now = search rules in
+    (seen, c.in-Ok.ensures.later, stays seen, (c.in-Ok.listed, differ, listed g.D.Disk _ seen c.args.site.now c.args.deploy c.args.path.now c.in-Ok.listed judged))
+
+pub returns-in-Err-store-clause-answer : goal.returns-in-Err-store-clause-answer
+returns-in-Err-store-clause-answer g c =
+    let (made, judged) = c.in-Ok.ensures.judged in
+    let seen = c.judge.new.seen in
+    let same : c.in-Ok.listed ≡ digest_of c.args.bytes.now = search rules in
+    let large : (c.in-Err-store.fault ≡ TooLarge) ↔ (16777216 < length c.args.bytes.now) = search rules in
+    (seen, c.in-Ok.ensures.later, stays seen, (lists g.D.Disk _ seen c.args.site.now c.args.deploy c.args.path.now c.args.bytes.now c.in-Ok.listed same judged, large))
+
+pub returns-in-Ok-publish_if_ready-clause-asked : goal.returns-in-Ok-publish_if_ready-clause-asked
+returns-in-Ok-publish_if_ready-clause-asked g c =
+    let (made, done) = c.in-Ok-publish_if_ready.ensures.done in
+    (made, c.publish_if_ready.new.known, done)
+
+pub returns-in-Ok-publish_if_ready-clause-answer : goal.returns-in-Ok-publish_if_ready-clause-answer
+returns-in-Ok-publish_if_ready-clause-answer g c =
+    let (made, judged) = c.in-Ok.ensures.judged in
+    let (more, done) = c.in-Ok-publish_if_ready.ensures.done in
+    let seen = c.judge.new.seen in
+    let last = c.publish_if_ready.new.seen in
+    let same : c.in-Ok.listed ≡ digest_of c.args.bytes.now = search rules in
+    let digest : c.of_bytes-digest.result ≡ digest_of c.args.bytes.now = search rules in
+    let fits : ¬ (16777216 < length c.args.bytes.now) = search rules in (
+      seen,
+      c.in-Ok.ensures.later,
+      c.in-Ok-publish_if_ready.ensures.later,
+      (
+        (lists g.D.Disk _ seen c.args.site.now c.args.deploy c.args.path.now c.args.bytes.now c.in-Ok.listed same judged, fits),
+        digest,
+        published g.D.Disk _ last c.args.site.now c.args.deploy c.args.bytes.now c.in-Ok-store.known c.publish_if_ready.new.known c.in-Ok-publish_if_ready.published
+            c.in-Ok-store.ensures.known c.in-Ok-publish_if_ready.ensures.files done,
+      ),
+    )
+
+pub returns-clause-asked : goal.returns-clause-asked
+returns-clause-asked g c =
+    let (made, done) = c.in-Err-publish_if_ready.ensures.done in
+    asked_last g.D.Disk (last_number g.J.ListName.found) made c.publish_if_ready.new.seen c.args.site.now c.args.deploy c.args.path.now c.args.bytes.now
+    c.publish_if_ready.new.known c.in-Err-publish_if_ready.why done
+
+pub returns-clause-answer : goal.returns-clause-answer
+returns-clause-answer g c =
+    let (made, judged) = c.in-Ok.ensures.judged in
+    let (more, done) = c.in-Err-publish_if_ready.ensures.done in
+    let seen = c.judge.new.seen in
+    let same : c.in-Ok.listed ≡ digest_of c.args.bytes.now = search rules in
+    let fits : ¬ (16777216 < length c.args.bytes.now) = search rules in (
+      seen,
+      c.in-Ok.ensures.later,
+      c.in-Err-publish_if_ready.ensures.later,
+      not_published g.D.Disk _ seen c.publish_if_ready.new.seen c.args.site.now c.args.deploy c.args.path.now c.args.bytes.now c.publish_if_ready.new.known
+          c.in-Err-publish_if_ready.why
+          (lists g.D.Disk _ seen c.args.site.now c.args.deploy c.args.path.now c.args.bytes.now c.in-Ok.listed same judged, fits) done,
+    )

@@ -1,0 +1,2 @@
+-- what public clauses say
+pub mod Boots
