@@ -12,7 +12,7 @@ use Rattle.site_change.specs.Changes.{IsWithin}
 use Rattle.site_change.specs.declared.commands.Command.{Command}
 use Rattle.site_change.specs.declared.commands.Command.TheVariants.{Publish}
 use Rattle.site_change.specs.declared.refusals.ChangeRefusal.{ChangeRefusal}
-use Rattle.change_log.specs.Logs.{Log}
+use Rattle.change_log.specs.Logs.{BeginsWith, Log}
 use Rattle.site_change.specs.declared.entries.Entry.{Entry}
 use Rattle.site_change.specs.declared.entries.Entry.TheVariants.{Change, Undo}
 use Rattle.site_desk.specs.Books.{Kept, state_of}
@@ -24,7 +24,7 @@ use Rattle.site_desk.specs.declared.upload_errors.UploadError.{UploadError}
 use Rattle.site_desk.specs.declared.upload_errors.UploadError.TheVariants as upload
 use Rattle.shared_house.specs.Desks.{Takes}
 use Rattle.shared_house.specs.Entering.{IsEntryAnswer, IsJudged, IsPublishing, IsRunOver, IsSoAt, IsUploadAnswer, Lists, ListsThem, MayStore, Reason, reason_of_command, reason_of_undo}
-use Rattle.desk_seats.specs.Asked.{IsAsked}
+use Rattle.desk_seats.specs.Asked.{IsAsked, IsJudgedAt}
 
 -- what is so of a book is so at its log
 so_at : {D : Type 0} (floor : ℕ) (kept : Kept D) (log : Log) (is_so : Contents → State → Type 0) → IsMet floor kept → kept.journal.entries ≡ log
@@ -81,14 +81,20 @@ stops disk floor log site n path bytes upload.WrongDigest (kept, none, same) = a
 stops disk floor log site n path bytes (upload.NotStored why) (kept, none, same) = absurd none
 stops disk floor log site n path bytes (upload.NotPublished why) (kept, none, same) = absurd none
 
-pub asked_first : {D : Type 0} (disk : Ghosts D) (found floor : ℕ) (log : Log) (site : SiteName) (n : ℕ) (path bytes : List ℕ) (why : UploadError Log)
-    → Judges disk floor log site n path (Err why) → IsAsked disk found (Takes site n path bytes log (Err why))
-asked_first disk found floor log site n path bytes upload.Broken judged = tt
-asked_first disk found floor log site n path bytes upload.NoSuchDeploy judged = tt
-asked_first disk found floor log site n path bytes upload.NotListed judged = tt
-asked_first disk found floor log site n path bytes upload.WrongDigest judged = tt
-asked_first disk found floor log site n path bytes (upload.NotStored why) judged = tt
-asked_first disk found floor log site n path bytes (upload.NotPublished why) (kept, none, same) = absurd none
+pub asked_first : {D : Type 0} (disk : Ghosts D) (found made : ℕ) (log : Log) (site : SiteName) (n : ℕ) (path bytes : List ℕ) (why : UploadError Log)
+    → Judges disk (found + made) log site n path (Err why) → IsAsked disk found (Takes site n path bytes log (Err why))
+asked_first disk found made log site n path bytes upload.Broken judged = (made, judged)
+asked_first disk found made log site n path bytes upload.NoSuchDeploy judged = (made, judged)
+asked_first disk found made log site n path bytes upload.NotListed judged = (made, judged)
+asked_first disk found made log site n path bytes upload.WrongDigest (kept, none, same) = absurd none
+asked_first disk found made log site n path bytes (upload.NotStored why) (kept, none, same) = absurd none
+asked_first disk found made log site n path bytes (upload.NotPublished why) (kept, none, same) = absurd none
+
+-- its first step finds the digest of these bytes
+pub found_them : {D : Type 0} (disk : Ghosts D) (found made : ℕ) (log : Log) (site : SiteName) (n : ℕ) (path bytes : List ℕ) (digest : Digest)
+    → digest ≡ digest_of bytes → Judges disk (found + made) log site n path (Ok digest) → IsJudgedAt disk found log site n path (Ok (digest_of bytes))
+found_them disk found made log site n path bytes digest same judged =
+    (made, subst (λ (d : Digest). Judges disk (found + made) log site n path (Ok d)) same judged)
 
 known_within : (files known : Contents) (digest : Digest) → IsWithin files known → IsSome (map.get files digest) → IsSome (map.get known digest)
 known_within files known digest within is =
@@ -117,11 +123,12 @@ not_published disk floor first log site n path bytes files upload.NotListed list
 not_published disk floor first log site n path bytes files upload.WrongDigest lists (old, new, none, same, is) = absurd none
 not_published disk floor first log site n path bytes files (upload.NotStored why) lists (old, new, none, same, is) = absurd none
 
-pub asked_last : {D : Type 0} (disk : Ghosts D) (found made : ℕ) (log : Log) (site : SiteName) (n : ℕ) (path bytes : List ℕ) (files : Contents) (why : UploadError Log)
+pub asked_last : {D : Type 0} (disk : Ghosts D) (found made : ℕ) (first log : Log) (site : SiteName) (n : ℕ) (path bytes : List ℕ) (files : Contents)
+    (why : UploadError Log) → BeginsWith log first → IsJudgedAt disk found first site n path (Ok (digest_of bytes))
     → Publishes disk (found + made) log files site n (Err why) → IsAsked disk found (Takes site n path bytes log (Err why))
-asked_last disk found made log site n path bytes files (upload.NotPublished why) is = (made, files, is)
-asked_last disk found made log site n path bytes files upload.Broken is = tt
-asked_last disk found made log site n path bytes files upload.NoSuchDeploy is = tt
-asked_last disk found made log site n path bytes files upload.NotListed is = tt
-asked_last disk found made log site n path bytes files upload.WrongDigest is = tt
-asked_last disk found made log site n path bytes files (upload.NotStored why) is = tt
+asked_last disk found made first log site n path bytes files (upload.NotPublished why) later judged is = (first, later, judged, made, files, is)
+asked_last disk found made first log site n path bytes files upload.Broken later judged (old, new, none, same, is) = absurd none
+asked_last disk found made first log site n path bytes files upload.NoSuchDeploy later judged (old, new, none, same, is) = absurd none
+asked_last disk found made first log site n path bytes files upload.NotListed later judged (old, new, none, same, is) = absurd none
+asked_last disk found made first log site n path bytes files upload.WrongDigest later judged (old, new, none, same, is) = absurd none
+asked_last disk found made first log site n path bytes files (upload.NotStored why) later judged (old, new, none, same, is) = absurd none

@@ -1,20 +1,37 @@
 -- What a desk is asked from a seat.
-use Rattle.std.specs.Prelude.{ℕ, ◌+◌, Ok, Err}
+use Rattle.std.specs.Prelude.{◌≢◌, ℕ, ◌+◌, List, Option, Result, Ok, Err}
 use Rattle.byte_view.specs.Contents.{Contents}
 use Rattle.host_disk.specs.declared.disks.Disk.{Ghosts}
+use Rattle.host_names.specs.Digests.{digest_of}
+use Rattle.host_names.specs.declared.digests.Digest.{Digest}
+use Rattle.host_names.specs.declared.names.SiteName.{SiteName}
+use Rattle.change_log.specs.Logs.{BeginsWith, Log}
 use Rattle.site_change.specs.declared.entries.Entry.TheVariants.{Change, Undo}
-use Rattle.site_desk.specs.declared.upload_errors.UploadError.TheVariants.{NotPublished}
+use Rattle.site_desk.specs.declared.upload_errors.UploadError.{UploadError}
+use Rattle.site_desk.specs.declared.upload_errors.UploadError.TheVariants.{NotPublished, NotStored, WrongDigest}
 use Rattle.shared_desk.specs.Turns.{Commits, Undoes}
-use Rattle.shared_desk.specs.Uploads.{Publishes}
+use Rattle.shared_desk.specs.Uploads.{Judges, Publishes}
 use Rattle.shared_house.specs.Desks.{DeskCall, Enters, Lacks, Takes}
 
--- An entry that is asked for has its turn at a book, which tells what becomes of the journal; so has one that publishes the deploy of an upload. The book
--- has as many entries at least as were found at the opening, and some number more. Of other calls this says nothing.
+-- an upload had its first turn, at a book that has as many entries at least as were found at the opening, and some number more
+abbrev pub IsJudgedAt : {D : Type 0} → Ghosts D → (found : ℕ) → Log → SiteName → ℕ → List ℕ → Result Digest (UploadError Log) → Type 0
+IsJudgedAt disk found log site n path result = (made : ℕ) × Judges disk (found + made) log site n path result
+
+-- it had its last turn too, after one that found the digest of these bytes
+abbrev pub HadBothTurns : {D : Type 0} → Ghosts D → (found : ℕ) → Log → SiteName → ℕ → (path bytes : List ℕ) → Result (Option Log) (UploadError Log) → Type 0
+HadBothTurns disk found log site n path bytes result =
+    (first : Log) × BeginsWith log first × IsJudgedAt disk found first site n path (Ok (digest_of bytes))
+    × (made : ℕ) × (files : Contents) × Publishes disk (found + made) log files site n result
+
+-- An entry that is asked for has its turn at such a book, which tells what becomes of the journal. An upload has its first turn, and stops there, or at its
+-- bytes, or has its last turn, too. Of what a deploy lacks this says nothing.
 abbrev pub IsAsked : {D : Type 0} → Ghosts D → (found : ℕ) → DeskCall → Type 0
 IsAsked disk found (Enters (Change command) log answer) = (made : ℕ) × Commits disk (found + made) log command answer
 IsAsked disk found (Enters (Undo site k) log answer) = (made : ℕ) × Undoes disk (found + made) log site k answer
-IsAsked disk found (Takes site n path bytes log (Ok taken)) = (made : ℕ) × (files : Contents) × Publishes disk (found + made) log files site n (Ok taken.published)
-IsAsked disk found (Takes site n path bytes log (Err (NotPublished why))) =
-    (made : ℕ) × (files : Contents) × Publishes disk (found + made) log files site n (Err (NotPublished why))
-IsAsked disk found (Takes site n path bytes log (Err other)) = Unit {0}
+IsAsked disk found (Takes site n path bytes log (Ok taken)) = HadBothTurns disk found log site n path bytes (Ok taken.published)
+IsAsked disk found (Takes site n path bytes log (Err (NotPublished why))) = HadBothTurns disk found log site n path bytes (Err (NotPublished why))
+IsAsked disk found (Takes site n path bytes log (Err WrongDigest)) =
+    (listed : Digest) × (listed ≢ digest_of bytes) × IsJudgedAt disk found log site n path (Ok listed)
+IsAsked disk found (Takes site n path bytes log (Err (NotStored why))) = IsJudgedAt disk found log site n path (Ok (digest_of bytes))
+IsAsked disk found (Takes site n path bytes log (Err other)) = IsJudgedAt disk found log site n path (Err other)
 IsAsked disk found (Lacks files answer) = Unit {0}

@@ -3,13 +3,13 @@ use Rattle.blob_store.specs.declared.blobs.UploadFault.TheVariants.{TooLarge}
 use Rattle.host_names.specs.Digests.{digest_of}
 use Rattle.change_log.specs.Logs.{last_number}
 use Rattle.shared_house.specs.HouseLaws.{stays}
-use Rattle.desk_seats.proofs.Turns.{asked_first, asked_last, listed, lists, not_published, published, stops}
+use Rattle.desk_seats.proofs.Turns.{asked_first, asked_last, found_them, listed, lists, not_published, published, stops}
 use Rattle.desk_seats.proofs.seated_desks.SeatedDeskDeskAccess.upload.Goals as goal
 
 pub returns-in-Err-clause-asked : goal.returns-in-Err-clause-asked
 returns-in-Err-clause-asked g c =
     let (made, judged) = c.in-Err.ensures.judged in
-    asked_first g.D.Disk (last_number g.J.ListName.found) _ c.judge.new.seen c.args.site.now c.args.deploy c.args.path.now c.args.bytes.now c.in-Err.why judged
+    asked_first g.D.Disk (last_number g.J.ListName.found) made c.judge.new.seen c.args.site.now c.args.deploy c.args.path.now c.args.bytes.now c.in-Err.why judged
 
 pub returns-in-Err-clause-answer : goal.returns-in-Err-clause-answer
 returns-in-Err-clause-answer g c =
@@ -17,12 +17,25 @@ returns-in-Err-clause-answer g c =
     let seen = c.judge.new.seen in
     (seen, c.in-Err.ensures.later, stays seen, stops g.D.Disk _ seen c.args.site.now c.args.deploy c.args.path.now c.args.bytes.now c.in-Err.why judged)
 
+pub returns-then-ne-clause-asked : goal.returns-then-ne-clause-asked
+returns-then-ne-clause-asked g c =
+    let (made, judged) = c.in-Ok.ensures.judged in
+    let differ : c.in-Ok.listed ≢ digest_of c.args.bytes.now = search rules in
+    (c.in-Ok.listed, differ, (made, judged))
+
 pub returns-then-ne-clause-answer : goal.returns-then-ne-clause-answer
 returns-then-ne-clause-answer g c =
     let (made, judged) = c.in-Ok.ensures.judged in
     let seen = c.judge.new.seen in
     let differ : c.in-Ok.listed ≢ digest_of c.args.bytes.now = search rules in
     (seen, c.in-Ok.ensures.later, stays seen, (c.in-Ok.listed, differ, listed g.D.Disk _ seen c.args.site.now c.args.deploy c.args.path.now c.in-Ok.listed judged))
+
+pub returns-in-Err-store-clause-asked : goal.returns-in-Err-store-clause-asked
+returns-in-Err-store-clause-asked g c =
+    let (made, judged) = c.in-Ok.ensures.judged in
+    let same : c.in-Ok.listed ≡ digest_of c.args.bytes.now = search rules in
+    found_them g.D.Disk (last_number g.J.ListName.found) made c.judge.new.seen c.args.site.now c.args.deploy c.args.path.now c.args.bytes.now c.in-Ok.listed same
+    judged
 
 pub returns-in-Err-store-clause-answer : goal.returns-in-Err-store-clause-answer
 returns-in-Err-store-clause-answer g c =
@@ -34,8 +47,17 @@ returns-in-Err-store-clause-answer g c =
 
 pub returns-in-Ok-publish_if_ready-clause-asked : goal.returns-in-Ok-publish_if_ready-clause-asked
 returns-in-Ok-publish_if_ready-clause-asked g c =
-    let (made, done) = c.in-Ok-publish_if_ready.ensures.done in
-    (made, c.publish_if_ready.new.known, done)
+    let (made, judged) = c.in-Ok.ensures.judged in
+    let (more, done) = c.in-Ok-publish_if_ready.ensures.done in
+    let seen = c.judge.new.seen in
+    let same : c.in-Ok.listed ≡ digest_of c.args.bytes.now = search rules in (
+      seen,
+      c.in-Ok-publish_if_ready.ensures.later,
+      found_them g.D.Disk (last_number g.J.ListName.found) made seen c.args.site.now c.args.deploy c.args.path.now c.args.bytes.now c.in-Ok.listed same judged,
+      more,
+      c.publish_if_ready.new.known,
+      done,
+    )
 
 pub returns-in-Ok-publish_if_ready-clause-answer : goal.returns-in-Ok-publish_if_ready-clause-answer
 returns-in-Ok-publish_if_ready-clause-answer g c =
@@ -59,9 +81,14 @@ returns-in-Ok-publish_if_ready-clause-answer g c =
 
 pub returns-clause-asked : goal.returns-clause-asked
 returns-clause-asked g c =
-    let (made, done) = c.in-Err-publish_if_ready.ensures.done in
-    asked_last g.D.Disk (last_number g.J.ListName.found) made c.publish_if_ready.new.seen c.args.site.now c.args.deploy c.args.path.now c.args.bytes.now
-    c.publish_if_ready.new.known c.in-Err-publish_if_ready.why done
+    let (made, judged) = c.in-Ok.ensures.judged in
+    let (more, done) = c.in-Err-publish_if_ready.ensures.done in
+    let seen = c.judge.new.seen in
+    let same : c.in-Ok.listed ≡ digest_of c.args.bytes.now = search rules in
+    let first = found_them g.D.Disk (last_number g.J.ListName.found) made seen c.args.site.now c.args.deploy c.args.path.now c.args.bytes.now c.in-Ok.listed same
+    judged in
+    asked_last g.D.Disk (last_number g.J.ListName.found) more seen c.publish_if_ready.new.seen c.args.site.now c.args.deploy c.args.path.now c.args.bytes.now
+    c.publish_if_ready.new.known c.in-Err-publish_if_ready.why c.in-Err-publish_if_ready.ensures.later first done
 
 pub returns-clause-answer : goal.returns-clause-answer
 returns-clause-answer g c =
