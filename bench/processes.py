@@ -7,7 +7,7 @@ import subprocess
 import sys
 import time
 
-from streams import MEBIBYTE, head
+from streams import MEBIBYTE, request
 
 
 class Output:
@@ -63,9 +63,9 @@ def memory_of(program, field):
     return 1024 * int(told.partition(f"{field}:")[2].split()[0])
 
 
-def begin_reply(program, method, target):
+def begin_reply(program, method, target, given=None):
     """Lets a running program answer this request, and reads the head of the reply, and what comes of the body with it."""
-    program.stdin.write(head(method, target))
+    program.stdin.write(request(method, target, given))
     program.stdin.flush()
     reply = b""
     while b"\r\n\r\n" not in reply:
@@ -83,11 +83,28 @@ def ask(program, method, length):
         left -= len(os.read(program.stdout.fileno(), MEBIBYTE))
 
 
-def list_changes(program, site):
-    """Lets a running program list the changes of a site, and returns the body of its reply and the seconds from the request to its end."""
+def answer(program, method, target, given=None):
+    """Lets a running program answer this request, and returns the body of its reply and the seconds from the request to its end."""
     begun = time.perf_counter()
-    told, body = begin_reply(program, "GET", f"/api/v1/sites/{site}/changes")
+    told, body = begin_reply(program, method, target, given)
     length = int(told.partition(b"Content-Length: ")[2].split(b"\r\n")[0])
     while len(body) < length:
         body += os.read(program.stdout.fileno(), MEBIBYTE)
     return body, time.perf_counter() - begun
+
+
+def answer_all(program, requests, last):
+    """Lets a running program answer these requests, which are sent at once, and returns the seconds to the end of the last reply, which ends so."""
+    begun, got = time.perf_counter(), b""
+    program.stdin.write(b"".join(requests))
+    program.stdin.flush()
+    while not got.endswith(last):
+        more = os.read(program.stdout.fileno(), MEBIBYTE)
+        got += more
+        require(more and b"HTTP/1.1 4" not in got, got[-200:])
+    return time.perf_counter() - begun
+
+
+def list_changes(program, site):
+    """Lets a running program list the changes of a site, and returns the body of its reply and the seconds from the request to its end."""
+    return answer(program, "GET", f"/api/v1/sites/{site}/changes")

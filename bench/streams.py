@@ -28,6 +28,10 @@ def head(method, target, length=None):
     return "\r\n".join([f"{method} {target} HTTP/1.1", "Host: localhost", *lengths, "", ""]).encode()
 
 
+def request(method, target, body=None):
+    return head(method, target) if body is None else head(method, target, len(body)) + body
+
+
 def write_stream(folder, content, digest, reads):
     """Writes the requests that deploy the content as one file and then read it so often."""
     stream = folder / f"{content.name}.http"

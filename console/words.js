@@ -7,6 +7,7 @@ const KINDS = {
   alias: () => "moved an alias",
   unalias: () => "removed an alias",
   rename: () => "renamed a file",
+  "rename-folder": () => "renamed a folder",
   remove: () => "removed a file",
   restore: () => "served a deploy again, or published an open one",
   delete: () => "removed a deploy",

@@ -15,8 +15,9 @@ import piece_tables
 from shown_text import shown
 from store_source import end_of_records, records_of
 
-# How many descriptors the program keeps for itself, and for each node; and how many connections a node needs (docs/WIRE.md, "Deadlines and places").
-OF_PROGRAM, OF_NODE, LEAST = 16, 8, 8
+# How many descriptors the program keeps for itself, for each node and for each thread that waits for sockets; how many of these a node has beside its workers;
+# and how many connections a node needs (docs/WIRE.md, "Deadlines and places").
+OF_PROGRAM, OF_NODE, OF_THREAD, OTHERS, LEAST = 16, 8, 2, 2, 8
 
 
 def name_of(user):
@@ -239,9 +240,10 @@ def more_of(error, host, port):
     return ""
 
 
-def of_descriptors(nodes):
-    """Whether the limit of descriptors leaves enough for each node."""
+def of_descriptors(nodes, workers):
+    """Whether the limit of descriptors leaves enough for each node, with so many workers."""
     hard = resource.getrlimit(resource.RLIMIT_NOFILE)[1]
-    if hard != resource.RLIM_INFINITY and (hard - OF_PROGRAM) // nodes - OF_NODE < LEAST:
-        return [f"the limit of descriptors (ulimit -H -n) is {hard}: {nodes} nodes need {OF_PROGRAM + nodes * (OF_NODE + LEAST)} at least"]
+    least = OF_PROGRAM + nodes * (OF_NODE + OF_THREAD * (workers + OTHERS) + LEAST)
+    if hard != resource.RLIM_INFINITY and hard < least:
+        return [f"the limit of descriptors (ulimit -H -n) is {hard}: {nodes} nodes need {least} at least"]
     return []

@@ -23,11 +23,14 @@ MOST_RECORDS = 1_000_000
 GREATEST_NUMBER = 1_000_000
 
 NAME = re.compile(rb"[a-z0-9-]{1,63}", re.ASCII)
-KINDS = ["undo", "open", "publish", "cancel", "alias", "no-alias", "rename", "remove", "restore", "no-deploy"]
+KINDS = ["undo", "open", "publish", "cancel", "alias", "no-alias", "rename", "remove", "restore", "no-deploy", "rename-folder"]
+# How many of these kinds a journal of version 1 has. Each later version has all.
+OLD_KINDS = 10
 # What follows the site of an entry of each kind.
 PARTS = {
     "undo": ["number"], "open": ["flags", "listing"], "publish": ["number"], "cancel": ["number"], "alias": ["name", "number"],
     "no-alias": ["name"], "rename": ["path", "path"], "remove": ["path"], "restore": ["number"], "no-deploy": ["number"],
+    "rename-folder": ["path", "path"],
 }
 
 
@@ -115,11 +118,11 @@ def is_path(path):
     return not any(segment in (b"", b".", b"..") for segment in path[1:].split(b"/"))
 
 
-def decode(body):
-    """The entry whose text this is."""
+def decode(body, version=2):
+    """The entry whose text this is, in a journal of this version."""
     text = Text(body)
     kind = text.integer(1)
-    if kind >= len(KINDS):
+    if kind >= (OLD_KINDS if version == 1 else len(KINDS)):
         raise BadEntry
     word = KINDS[kind]
     entry = (word, text.name(), *(getattr(text, part)() for part in PARTS[word]))
@@ -170,27 +173,35 @@ def read_record(file, gate, number):
     return file[gate + 5:gate + 5 + length]
 
 
-def read_records(file, gate):
-    """The entries of the records from this gate on, and the place of the first gate that isn't open."""
+def version_of(header):
+    """The version of a file that has this header behind its gate."""
+    return header[len(b"\x01FHJRNL")]
+
+
+def read_records(file, header):
+    """The entries of the records behind a header, and the place of the first gate that isn't open."""
+    gate = len(header)
     entries = []
     while file[gate:gate + 1] == OPEN:
         number = len(entries) + 1
         body = read_record(file, gate, number)
         try:
-            entries.append(decode(body))
+            entries.append(decode(body, version_of(header)))
         except BadEntry:
             raise BadRecord(number) from None
         gate += 5 + len(body)
     return entries, gate
 
 
-def whole_records(file, gate):
-    """The entries of the whole records that follow one another from this gate on, whatever their gates are, each with whether its gate is open."""
+def whole_records(file, gate, header):
+    """The entries of the whole records that follow one another from this gate on, in a file with this header, whatever their gates are, each with
+    whether its gate is open.
+    """
     found = []
     try:
         while True:
             body = read_record(file, gate, len(found) + 1)
-            found.append((decode(body), file[gate:gate + 1] == OPEN))
+            found.append((decode(body, version_of(header)), file[gate:gate + 1] == OPEN))
             gate += AROUND_BODY + len(body)
     except (BadEntry, BadRecord):
         return found
@@ -198,7 +209,7 @@ def whole_records(file, gate):
 
 def salvaged(file):
     """What can be read of a file that was kept, whatever its first byte and its gates are: entries, each with whether its gate is open."""
-    return max((whole_records(file, len(header)) for header in HEADERS), key=len)
+    return max((whole_records(file, len(header), header) for header in HEADERS), key=len)
 
 
 def is_in_use(slot):
@@ -233,7 +244,7 @@ def opened(first, second=b""):
         return [], (first[:1], EMPTY)
     file = slots[place]
     header = HEADERS[generation_of(file)]
-    entries, gate = read_records(file, len(header))
+    entries, gate = read_records(file, header)
     beside = slots[1 - place]
     slots[1 - place] = beside if is_in_use(beside) else beside[:1]
     new = HEADER + file[len(header):gate] + SHUT
@@ -251,9 +262,11 @@ def may_be_unfinished(behind):
     return len(behind) - AROUND_BODY < length or behind == behind[:1] * len(behind)
 
 
-def loss_of(file, start, gate):
-    """What is dropped of a file from one place on: that place, how many bytes, and how many whole records follow one another from a gate on."""
-    return start, len(file) - start, len(whole_records(file, gate))
+def loss_of(file, start, gate, header):
+    """What is dropped of a file with this header from one place on: that place, how many bytes, and how many whole records follow one another from a
+    gate on.
+    """
+    return start, len(file) - start, len(whole_records(file, gate, header))
 
 
 def dropped(first, second=b""):
@@ -264,12 +277,13 @@ def dropped(first, second=b""):
     for at, slot in enumerate(slots):
         if not is_in_use(slot) and len(slot) > len(EMPTY):
             headers = [header for header in HEADERS if slot[1:len(header)] == header[1:]]
-            lost[at] = loss_of(slot, 1, len(headers[0]) if headers else len(slot))
+            lost[at] = loss_of(slot, 1, len(headers[0]), headers[0]) if headers else (1, len(slot) - 1, 0)
     if place is not None:
         file = slots[place]
-        gate = read_records(file, len(HEADERS[generation_of(file)]))[1]
+        header = HEADERS[generation_of(file)]
+        gate = read_records(file, header)[1]
         if not may_be_unfinished(file[gate + 1:]):
-            lost[place] = loss_of(file, gate + 1, gate)
+            lost[place] = loss_of(file, gate + 1, gate, header)
     return tuple(lost)
 
 

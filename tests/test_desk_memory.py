@@ -19,6 +19,8 @@ PUBLISH, REMOVE, UNDO_2 = ("publish", "one", 1), ("remove", "one", "/a.txt"), ("
 UPLOAD = uploading(0, 1, "/a.txt", "hello")
 OPEN_TWO = opening_of({"/a.txt": b"hello", "/b.txt": b"abc"})
 RENAME, REMOVE_B, UNDO_3 = ("rename", "one", "/a.txt", "/c.txt"), ("remove", "one", "/b.txt"), ("undo", "one", 3)
+OPEN_FOLDERS = opening_of({"/e/x": b"hello", "/e/f/y": b"abc", "/k/z": b"abc"})
+RENAME_E, RENAME_K = ("rename-folder", "one", "/e", "/g"), ("rename-folder", "one", "/k", "/l")
 LACKING = ("OutOfMemory", "NotStored(OutOfMemory)")
 
 
@@ -110,6 +112,20 @@ class Memory(AtDesk):
         uploads = [uploading(0, 1, "/a.txt", "hello"), uploading(0, 1, "/b.txt", "abc")]
         self.play("steps", entering(0, OPEN_TWO), *uploads, entering(0, RENAME), entering(0, REMOVE_B))
         self.assert_made_once_there_is_memory(entering(0, UNDO_3), Look.of(0, False, before), Look.of(1, True, [*before, UNDO_3]))
+
+    def play_folders(self, *renamings):
+        """Publishes files in folders, and renames some. Answers what was entered."""
+        uploads = [uploading(0, 1, path, text) for path, text in (("/e/x", "hello"), ("/e/f/y", "abc"))]
+        self.play("steps", entering(0, OPEN_FOLDERS), *uploads, *(entering(0, renaming) for renaming in renamings))
+        return [OPEN_FOLDERS, PUBLISH, *renamings]
+
+    def test_the_renaming_of_a_folder_is_made(self):
+        before = self.play_folders(RENAME_K)
+        self.assert_made_once_there_is_memory(entering(0, RENAME_E), Look.of(0, False, before), Look.of(1, False, [*before, RENAME_E]))
+
+    def test_the_undo_of_the_renaming_of_a_folder_is_made_after_which_another_was_renamed(self):
+        before = self.play_folders(RENAME_E, RENAME_K)
+        self.assert_made_once_there_is_memory(entering(0, UNDO_3), Look.of(0, False, before), Look.of(1, False, [*before, UNDO_3]))
 
 
 if __name__ == "__main__":

@@ -10,7 +10,7 @@ import unittest
 
 from lib.client import digest_of
 from lib.desks import DEPLOYERS, READERS, AtDesk, Printed, entering, uploading
-from lib.generated_histories import NAMES, PATHS, SITES
+from lib.generated_histories import FOLDERS, NAMES, PATHS, SITES
 from lib.long_model import LongModel
 from lib.plain_history import Deploy, Entry, Refused
 from lib.stores import entry_of, opening_of, told
@@ -23,7 +23,7 @@ LINES_BEFORE_THE_KILL = 3_000
 # Each file's content is one word, as a line of the program has it.
 WORDS = [f"word{number}" for number in range(40)]
 CONTENT_OF = {digest_of(word.encode()): word.encode() for word in WORDS}
-KINDS = {"open": 30, "rename": 8, "remove": 8, "restore": 8, "alias": 5, "unalias": 2, "delete": 4, "cancel": 2, "undo": 33}
+KINDS = {"open": 30, "rename": 8, "rename-folder": 5, "remove": 8, "restore": 8, "alias": 5, "unalias": 2, "delete": 4, "cancel": 2, "undo": 33}
 MADE, REFUSED = re.compile(r"Made\(([0-9]+)\)"), re.compile(r"Refused\((\w+)\b.*, ([0-9]+)\)")
 OTHERS = ("Stored", "NoSuchDeploy")
 
@@ -43,6 +43,8 @@ class Task:
             return (Deploy({self.path: digest_of(self.word.encode())}, False, draw.random() < 0.7),)
         if kind == "rename":
             return draw.choice(PATHS), draw.choice(PATHS)
+        if kind == "rename-folder":
+            return draw.choice(FOLDERS), draw.choice(FOLDERS)
         if kind == "remove":
             return (draw.choice(PATHS),)
         return {"alias": (draw.choice(NAMES), number), "unalias": (draw.choice(NAMES),)}.get(kind, (number,))

@@ -1,4 +1,7 @@
-"""Generated histories: the program answers each of their requests as the plain model does, byte for byte."""
+"""Generated histories: the program answers each of their requests as the plain model does, byte for byte.
+
+FILEHOST_HISTORIES says how many of each kind there are, where the gate's count isn't enough.
+"""
 
 import collections
 import concurrent.futures
@@ -6,22 +9,27 @@ import itertools
 import unittest
 
 from lib.client import REQUESTS, Program
-from lib.generated_histories import PROGRAMS_AT_ONCE, Generator, Run, in_json, views
+from lib.generated_histories import PROGRAMS_AT_ONCE, FolderGenerator, Generator, Run, count_of, in_json, views
 from lib.plain_model import Request
 
 HISTORIES = 3_000
-UNDONE_AT_ONCE = 1_000
+UNDONE_AT_ONCE = 1_200
+OF_FOLDERS = 500
 BATCHES = 40
 
 
-def run_of_any(seed):
+def run_of_any(seed, of=Generator):
     """A history of up to a hundred requests. The last ones read all that is visible."""
     made = Run()
-    generator = Generator(seed, made.model)
+    generator = of(seed, made.model)
     made.ask(generator.requests(generator.one_of((40, 55, 70, 85))))
-    made.ask(views(made.model)[:REQUESTS - len(made.requests)])
+    made.ask(views(made.model, of=of)[:REQUESTS - len(made.requests)])
     made.replies()
     return made.tally()
+
+
+def run_of_folders(seed):
+    return run_of_any(seed, FolderGenerator)
 
 
 def run_with_a_change_undone_at_once(seed):
@@ -70,32 +78,40 @@ def tally_of(make, seeds):
 class Histories(Program):
     """Histories that are drawn by chance. Each is asked of a new program, whose host is empty at first."""
 
-    def assert_tally(self, make, count, least):
-        """All these runs go well, and each of these words was met at least so often."""
+    def assert_tally(self, make, usual, least):
+        """All these runs go well, and each of these words was met at least so often where there are as many runs as usual."""
+        count = count_of(usual)
         batches = [range(start, count, BATCHES) for start in range(BATCHES)]
         with concurrent.futures.ProcessPoolExecutor(PROGRAMS_AT_ONCE) as pool:
             tallies, faults = zip(*pool.map(tally_of, [make] * BATCHES, batches))
         for fault in filter(None, faults):
             self.fail(fault)
         tally = sum(tallies, collections.Counter())
-        rare = {word: tally[word] for words, number in least.items() for word in words.split() if tally[word] < number}
+        rare = {word: tally[word] for words, number in least.items() for word in words.split() if tally[word] < number * count // usual}
         self.assertEqual(rare, {}, f"met in all: {sorted(tally.items())}")
 
     def test_are_answered_as_by_the_plain_model(self):
         self.assert_tally(run_of_any, HISTORIES, {
             "undo Clash": 3_000,
-            "open publish cancel alias unalias rename remove restore delete": 500,
+            "open publish cancel alias unalias rename rename-folder remove restore delete": 500,
             "NoSuchFile NoSuchDeploy NoSuchDraft NotListed NoSuchAlias NoSuchChange": 400,
-            "NotComplete PathTaken SamePath DeployInUse NotAChange AlreadyUndone WrongDigest": 400,
+            "NotComplete PathTaken SamePath NestedFolder DeployInUse NotAChange AlreadyUndone WrongDigest": 400,
             "NotSatisfiable BadName BadPath BadDigest BadBody NoRoute BadMethod": 50,
             "GET-200 GET-206 HEAD-200 HEAD-404 closed": 500,
             "parts conditions": 50,
         })
 
+    def test_of_folders_are_answered_as_by_the_plain_model(self):
+        self.assert_tally(run_of_folders, OF_FOLDERS, {
+            "undo Clash rename-folder": 1_000,
+            "NoSuchFile PathTaken SamePath NestedFolder": 80,
+            "PathTooLong": 25,
+        })
+
     def test_are_as_before_where_a_change_is_undone_at_once(self):
         self.assert_tally(run_with_a_change_undone_at_once, UNDONE_AT_ONCE, {
             "run": 600,
-            "open publish cancel alias unalias rename remove restore delete": 20,
+            "open publish cancel alias unalias rename rename-folder remove restore delete": 20,
         })
 
 

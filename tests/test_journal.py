@@ -27,12 +27,14 @@ def numbered(number):
     kinds = [
         ("undo", site, n), ("open", site, flags, ((one, digest),)), ("publish", site, n), ("cancel", site, n),
         ("alias", site, "next", n), ("no-alias", site, "next"), ("rename", site, one, other), ("remove", site, one),
-        ("restore", site, n), ("no-deploy", site, n),
+        ("restore", site, n), ("no-deploy", site, n), ("rename-folder", site, one, other),
     ]
-    return kinds[number % 10]
+    return kinds[number % len(kinds)]
 
 
 ENTRIES = [numbered(number) for number in range(1, 201)]
+# Those that a file of version 1 may have.
+OLD_ENTRIES = [entry for entry in ENTRIES if entry[0] != "rename-folder"]
 OPENING = ["fsync folder", "fdatasync journal", "fdatasync journal.2"]
 
 
@@ -73,9 +75,9 @@ class Files(Journals):
         self.assertEqual(journal.slots_in(self.folder), (journal.write([*ENTRIES[:50], CANCEL, CANCEL, CANCEL]), b""))
 
     def test_brings_a_file_of_version_1_over_and_leaves_it_as_it_is(self):
-        file = journal.write(ENTRIES, journal.OLD_HEADER) + b"the end of an entry that was being put"
+        file = journal.write(OLD_ENTRIES, journal.OLD_HEADER) + b"the end of an entry that was being put"
         self.file.write_bytes(file)
-        for entries in (ENTRIES, [*ENTRIES, CANCEL], [*ENTRIES, CANCEL, CANCEL]):
+        for entries in (OLD_ENTRIES, [*OLD_ENTRIES, CANCEL], [*OLD_ENTRIES, CANCEL, CANCEL]):
             self.assertEqual(self.open(), f"{len(entries)} entries")
             self.assertEqual(journal.slots_in(self.folder), (file, journal.write(entries)))
             self.run_program("put", self.file, "1")

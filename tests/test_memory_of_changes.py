@@ -9,7 +9,7 @@ import collections
 import unittest
 
 from lib.client import ABC, digest_of, uploaded
-from lib.lacking_hosts import CHANGES, LACKING, LACKING_AND_CLOSED, LIST, alias, left_by, read, show, undo, upload
+from lib.lacking_hosts import CHANGES, FOLDERS, LACKING, LACKING_AND_CLOSED, LIST, RENAME_FOLDER, RENAMED, alias, left_by, read, show, undo, upload
 from lib.plain_model import Model
 from lib.refused_allocations import NO_MEMORY, Refusing, pieces
 from lib.stores import IN_MEMORY, Stored, as_bytes, entry_of, is_stored, opening_of, told
@@ -117,16 +117,21 @@ class Repeats(SweptStores):
         found = self.ends(self.changed, [undo(3), undo(3)])
         self.assertGreater(found[LACKING, entry(5)], 30)
 
+    def test_the_renaming_of_a_folder_and_its_undo_are_made_by_the_next_one(self):
+        self.assertGreater(self.ends(FOLDERS, [RENAME_FOLDER, RENAME_FOLDER])[LACKING, entry(4)], 30)
+        self.assertGreater(self.ends(RENAMED, [undo(3), undo(3)])[LACKING, entry(5)], 30)
+
     def test_an_undo_that_finds_no_memory_leaves_the_journal_as_it_was(self):
-        before, kept = journal.write(self.changed[0]), collections.Counter()
+        for entries, contents in (self.changed, RENAMED):
+            before, kept = journal.write(entries), collections.Counter()
 
-        def check(hosts, out):
-            kept[out, journal.file_in(self.folder) == before] += 1
+            def check(hosts, out):
+                kept[out, journal.file_in(self.folder) == before] += 1
 
-        self.sweep(*self.changed, [undo(3)], check)
-        self.assertGreater(kept[LACKING, True], 30)
-        # The text of the reply alone found no memory.
-        self.assertLessEqual(kept[LACKING, False], 3)
+            self.sweep(entries, contents, [undo(3)], check)
+            self.assertGreater(kept[LACKING, True], 30)
+            # The text of the reply alone found no memory.
+            self.assertLessEqual(kept[LACKING, False], 3)
 
     def test_an_upload_is_published_once(self):
         """Before there was memory it had done nothing, or its file was stored and the deploy was open, or only the text of the reply found none."""

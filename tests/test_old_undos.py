@@ -80,7 +80,7 @@ class UndoGenerator(Generator):
 
     changes = {
         Generator.open: 8, Generator.restore: 4, Generator.cancel: 2, Generator.remove_deploy: 5, Generator.move_alias: 8, Generator.remove_alias: 3,
-        Generator.rename: 6, Generator.remove: 4,
+        Generator.rename: 6, Generator.rename_folder: 6, Generator.remove: 4,
     }
     others = {undo: 66, Generator.read: 3, Generator.show_deploy: 2, Generator.show_changes: 1, Generator.mistake: 1}
 
@@ -188,11 +188,11 @@ class OldUndos(Program):
         with concurrent.futures.ProcessPoolExecutor(PROGRAMS_AT_ONCE) as pool:
             tally = sum(pool.map(tally_of, range(len(SIZES))), collections.Counter())
         least = {
-            "undo": 2_000, "undo over many later changes": 80, "undo that passes over an undone change": 700,
+            "undo": 2_000, "undo over many later changes": 60, "undo that passes over an undone change": 700,
             "Clash": 4_000, "far clash": 100, "clash that passes over an undone change": 1_300,
             "far clash at live": 25, "far clash at alias": 40, "far clash at draft": 25,
             "NoSuchChange": 200, "NotAChange": 200, "AlreadyUndone": 200,
-            **dict.fromkeys(("open", "publish", "cancel", "alias", "unalias", "rename", "remove", "restore", "delete"), 150),
+            **dict.fromkeys(("open", "publish", "cancel", "alias", "unalias", "rename", "remove", "restore", "delete"), 150), "rename-folder": 100,
         }
         rare = {word: tally[word] for word, number in least.items() if tally[word] < number}
         self.assertEqual(rare, {}, f"met in all: {sorted(tally.items())}")

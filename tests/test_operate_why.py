@@ -96,9 +96,9 @@ class Reasons(CopiedStores):
             started = subprocess.run([PROGRAM, "solo", *map(str, store)], stdin=subprocess.DEVNULL, capture_output=True, **how)
             self.assertIn(started.returncode, (3, 4), started.stderr)
 
-    def assert_nothing(self, *words):
+    def assert_nothing(self, *words, **how):
         words = words or ("--store", self.store)
-        self.assertEqual(call(WHY, *words), (0, "nothing is in the way\n" + MORE * ("--store" in words), ""))
+        self.assertEqual(call(WHY, *words, **how), (0, "nothing is in the way\n" + MORE * ("--store" in words), ""))
 
     def test_a_store_that_opens(self):
         self.assert_nothing()
@@ -211,12 +211,14 @@ class Reasons(CopiedStores):
         self.assertIn("192.0.2.1:8080, node 0 for clients: Cannot assign requested address: this machine has no such address", out)
 
     def test_too_few_descriptors(self):
-        how = {"preexec_fn": lambda: resource.setrlimit(resource.RLIMIT_NOFILE, (40, 40))}
-        self.assert_found("the limit of descriptors (ulimit -H -n) is 40: 2 nodes need 48 at least",
-                          words=["--listen", f"{HOST}:{free_ports()}", "--nodes", "2"], **how)
+        how = {"preexec_fn": lambda: resource.setrlimit(resource.RLIMIT_NOFILE, (63, 63))}
+        words = ["--listen", f"{HOST}:{free_ports()}", "--nodes", "2"]
+        self.assert_found("the limit of descriptors (ulimit -H -n) is 63: 2 nodes need 64 at least", words=words, **how)
+        self.assert_nothing(*words, "--workers", "1", **how)
 
     def test_wrong_words(self):
-        for words in ([], ["--store"], ["--listen", "8080"], ["--listen", "127.0.0.1:0"], ["--listen", "127.0.0.1:8080", "--nodes", "9"], ["x"]):
+        for words in ([], ["--store"], ["--listen", "8080"], ["--listen", "127.0.0.1:0"], ["--listen", "127.0.0.1:8080", "--nodes", "9"],
+                      ["--listen", "127.0.0.1:8080", "--workers", "9"], ["x"]):
             status, out, errors = call(WHY, *words)
             self.assertEqual((status, out, len(errors.splitlines())), (2, "", 1), errors)
 

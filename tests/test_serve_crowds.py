@@ -24,7 +24,7 @@ HUGE = random.Random(1).randbytes(LARGEST_FILE)
 # The most connections of a node.
 PLACES = 1_024
 # How many descriptors the program has in one test, and how many of them a node with one port for clients keeps for other things.
-DESCRIPTORS, KEPT = 64, 24
+DESCRIPTORS, KEPT = 64, 32
 
 
 def upload_head(length):

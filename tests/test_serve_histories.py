@@ -1,47 +1,81 @@
 """Histories over the nodes of `filehost serve`: each request goes over another connection, and each reply is the wanted one, byte for byte.
 
 So whichever worker or node answers a request, its reply is over all that was changed before. Generated histories are compared with the plain model, and
-worked runs with `solo` too, as those of test_changes.py, test_undos.py and test_versions.py are.
+worked runs with `solo` too, as those of test_changes.py, test_undos.py and test_versions.py are. FILEHOST_HISTORIES says how many generated ones there are,
+where the gate's count isn't enough.
 """
 
 import collections
 import json
+import random
 import socket
+import tempfile
 import time
 import unittest
+from pathlib import Path
 
 from lib.client import ABC, EXAMPLES, HELLO, REQUESTS, digest_of, done, opened, opening, refused, request, sent, to_head, upload, uploaded
-from lib.generated_histories import Generator, Run, views
+from lib.generated_histories import FolderGenerator, Generator, Run, count_of, views
 from lib.hopping import Hopping
 from lib.range_replies import TWO_PARTS, none_of, part
 from lib.sample_site import TEXTS, WORLD
 from lib.served import Served, ask
-from lib.stores import as_bytes, opening_of, write_store
+from lib.stores import IN_MEMORY, as_bytes, opening_of, told, write_store
 from lib.wire import FAULTS, INTERIM, NEXT, NO_FILE, expecting
 from lib.worked_runs import (
     CHANGED, CHANGED_AGAIN, LISTING, NO_CHANGE, NO_DEPLOY, REFUSED, Worked, clash, deployed, entry, first_deployed, patching, reading, removing, renaming,
     restoring, serves, showing, stands, undoing,
 )
+import journal
 
-HISTORIES = 40
+HISTORIES, RESTARTED = 40, 20
 # How many entries of another site a history has.
 OTHERS, ABC_TEXT = 20_000, b"abc"
 TEXT = "text/plain; charset=utf-8"
 
 
+def made_of(seed, of=Generator):
+    """A history of fewer requests than one connection may have. The last ones read all that is visible."""
+    made = Run()
+    generator = of(seed, made.model)
+    made.ask(generator.requests(generator.one_of((40, 55, 70))))
+    made.ask(views(made.model, of=of)[:REQUESTS - 1 - len(made.requests)])
+    return made, list(zip(map(as_bytes, made.requests), made.wanted))
+
+
 class Generated(Hopping):
     def assert_history(self, seed):
-        made = Run()
-        generator = Generator(seed, made.model)
-        made.ask(generator.requests(generator.one_of((40, 55, 70))))
-        made.ask(views(made.model)[:REQUESTS - 1 - len(made.requests)])
-        self.assert_hops(list(zip(map(as_bytes, made.requests), made.wanted)), seed, made.told)
+        made, exchanges = made_of(seed)
+        self.assert_hops(exchanges, seed, made.told)
+        return made.tally()
+
+    def assert_met(self, tally, *words):
+        for word in words:
+            self.assertGreater(tally[word], 4, f"met in all: {sorted(tally.items())}")
+
+    def test_each_request_is_answered_as_by_the_plain_model(self):
+        tally = sum(map(self.assert_history, range(count_of(HISTORIES))), collections.Counter())
+        self.assert_met(
+            tally, "open", "publish", "undo", "Clash", "rename", "rename-folder", "remove", "alias", "GET-200", "GET-206", "NoSuchFile", "NotListed",
+            "AlreadyUndone",
+        )
+
+
+class Restarted(Generated):
+    """Histories over a store, each by three programs, one after another, each of which is killed. Mostly they draw renamings of folders."""
+
+    def assert_history(self, seed):
+        made, exchanges = made_of(seed, Generator if seed % 4 == 0 else FolderGenerator)
+        starts = [0, *sorted(random.Random(seed).sample(range(1, len(exchanges)), 2))]
+        with tempfile.TemporaryDirectory(dir=IN_MEMORY) as store:
+            for start, end in zip(starts, [*starts[1:], None]):
+                self.assert_hops(exchanges[start:end], seed, lambda place: made.told(start + place), ("--store", store))
+            self.assertEqual(journal.read_in(Path(store)), list(map(told, made.model.entries)), seed)
         return made.tally()
 
     def test_each_request_is_answered_as_by_the_plain_model(self):
-        tally = sum((self.assert_history(seed) for seed in range(HISTORIES)), collections.Counter())
-        for word in ("open", "publish", "undo", "Clash", "rename", "remove", "alias", "GET-200", "GET-206", "NoSuchFile", "NotListed", "AlreadyUndone"):
-            self.assertGreater(tally[word], 4, f"met in all: {sorted(tally.items())}")
+        tally = sum(map(self.assert_history, range(count_of(RESTARTED))), collections.Counter())
+        self.assert_met(tally, "open", "publish", "undo", "Clash", "rename", "rename-folder", "remove", "NestedFolder", "NoSuchFile")
 
 
 class Examples(Hopping):

@@ -80,9 +80,9 @@ class Descriptors(Launched, Crowds):
     def test_64_of_one_node(self):
         self.assert_serves_all(64, 1)
 
-    def test_64_of_two_nodes(self):
+    def test_80_of_two_nodes(self):
         """Two readers a node. With more, one whose request hasn't come yet may have to go for the next: it is a client of which no request was answered."""
-        self.assert_serves_all(64, 2, 2 * 2)
+        self.assert_serves_all(80, 2, 2 * 2)
 
     def test_256_of_one_node(self):
         self.assert_serves_all(256, 1)
@@ -92,7 +92,7 @@ class Descriptors(Launched, Crowds):
 
     def test_too_few_are_refused_before_anything_else(self):
         """Eight connections of each node are the fewest."""
-        for nodes, few, enough in ((1, 31, 32), (2, 47, 48)):
+        for nodes, few, enough in ((1, 39, 40), (2, 63, 64)):
             for limit in (24, few):
                 with self.subTest((nodes, limit)):
                     started = self.start(nodes=nodes, **limited_to(limit))
@@ -107,7 +107,7 @@ class Descriptors(Launched, Crowds):
         held = HeldFile(self.folder(), (folder / f"c-{digest_of(pieces_of(content)[1])}").resolve())
         # The program reads each piece once as it opens the store.
         held.open()
-        self.begin("--store", str(folder), second=WHOLE, environment=held.environment, **limited_to(32))
+        self.begin("--store", str(folder), second=WHOLE, environment=held.environment, **limited_to(40))
         answered = self.crowd(8, request("GET", FILE))
         for plug in answered:
             self.assertEqual(plug.recv(1), b"H")

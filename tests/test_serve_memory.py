@@ -15,7 +15,7 @@ from pathlib import Path
 
 from lib.client import ABC, digest_of, to_head, uploaded
 from lib.generated_histories import Generator
-from lib.lacking_hosts import CHANGES, LACKING, LACKING_AND_CLOSED, LIST, Hosts, read, show, undo, upload
+from lib.lacking_hosts import CHANGES, FOLDERS, LACKING, LACKING_AND_CLOSED, LIST, RENAME_FOLDER, RENAMED, Hosts, read, show, undo, upload
 from lib.lines import Line
 from lib.plain_model import Model, Request
 from lib.refused_on_demand import FOR_GOOD, Refusals, built_in
@@ -220,6 +220,10 @@ class Repeats(Short):
     def test_an_undo_is_made_by_the_next_one(self):
         found = self.rows(self.changed, [undo(3), undo(3)])
         self.assertGreater(found[LACKING, entry(5), True], 30)
+
+    def test_the_renaming_of_a_folder_and_its_undo_are_made_by_the_next_one(self):
+        self.assertGreater(self.rows(FOLDERS, [RENAME_FOLDER, RENAME_FOLDER])[LACKING, entry(4), True], 30)
+        self.assertGreater(self.rows(RENAMED, [undo(3), undo(3)])[LACKING, entry(5), True], 30)
 
     def test_an_upload_is_published_once(self):
         """Before there was memory it had done nothing, or its file was stored and the deploy was open, or only the text of the reply found none."""

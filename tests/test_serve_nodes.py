@@ -4,6 +4,7 @@ What is expected follows from docs/ARCHITECTURE.md, "How `serve` is built", and 
 the ring.
 """
 
+import concurrent.futures
 import itertools
 import os
 import random
@@ -28,7 +29,7 @@ TOLD = re.compile(r"filehost: \S+Z peer: node (\S+) (is passed over for 5 second
 
 
 class Nodes(Crowds):
-    def begin_cold(self, **how):
+    def begin_cold(self, workers=2, **how):
         """A store with files that no node has read: many of one piece each, some of which each node owns, and a large one."""
         drawn, self.store = random.Random(1), self.folder().resolve() / "store"
         contents = {f"/{number}": drawn.randbytes(60_000) for number in range(60)}
@@ -38,7 +39,7 @@ class Nodes(Crowds):
         for path, content in contents.items():
             self.owned[owner(port, digest_of(content), NODES)].append((path, content))
         how = self.held_in(**how)
-        self.begin("--store", str(self.store), "--workers", "2", nodes=NODES, port=port, second=WHOLE, **how)
+        self.begin("--store", str(self.store), "--workers", str(workers), nodes=NODES, port=port, second=WHOLE, **how)
 
     def held_in(self, most=None):
         """What the program is started with: so many reads are to be held of the next file that the second node owns, if a number is said."""
@@ -95,6 +96,16 @@ class Nodes(Crowds):
         self.assertEqual(self.held.told(), ["opened", "held", "opened"])
         self.assert_in_time(lambda: self.told() == [(f"127.0.0.1:{self.port + PEERS + 1}", "is passed over for 5 seconds")], 2)
         self.held.open()
+
+    def test_answers_all_that_ask_it_at_once_however_many_workers_there_are(self):
+        """The others ask over more connections than it has threads for them, and fewer than it has workers."""
+        self.begin_cold(workers=4)
+        self.lines = ""
+        asked = [(node, *self.owned[1].pop()) for _ in range(8) for node in (0, 2)]
+        with concurrent.futures.ThreadPoolExecutor(8) as threads:
+            for done in [threads.submit(self.assert_reads, *one) for one in asked]:
+                done.result()
+        self.assertEqual(self.told(), [])
 
     def told(self):
         """What the operator was told of other nodes."""

@@ -206,6 +206,22 @@ class Rooms(Room):
             ended.set()
             thread.join()
 
+    def test_ranges_of_a_file_that_end_one_after_another_give_their_room_back(self):
+        """As of a client that loads one file over several connections, again and again. In the end a reply may hold all that there is room for."""
+        self.serve(second=SECOND)
+        content, part = random.Random(5).randbytes(LARGEST_FILE), LARGEST_FILE // HOLDERS
+        publish(self.client(), {"/large": content})
+        for _ in range(2 * OF_REPLIES * MEBIBYTE // LARGEST_FILE):
+            plugs = [self.reader("/s/one/large", f"Range: bytes={first}-{first + part - 1}") for first in range(0, LARGEST_FILE, part)]
+            for plug in plugs:
+                self.assertEqual(self.read_all([plug])[0].size, part)
+                plug.close()
+        plug = self.reader("/s/one/large")
+        # The node looks several times meanwhile whether replies hold too much.
+        time.sleep(5 * SECOND / 1_000)
+        body, = self.read_all([plug])
+        self.assertEqual(body.hash.hexdigest(), digest_of(content))
+
     def test_of_replies_that_hold_too_much_the_one_goes_that_moved_least_of_late(self):
         """It is one that moved much, but long ago; and not the one that began first, whose client goes on to read."""
         started = self.serve("--store", str(self.write_store(LEFT + 1, CACHED)[0]), "--workers", "1", second=SHORT)

@@ -147,5 +147,22 @@ class Quiet(Room):
         del fill
 
 
+class Woken(Launched):
+    """Workers that all sleep, each on a set of its own."""
+
+    def test_a_client_is_answered_at_once(self):
+        """Also where its place is with another worker than the one that accepts it. Without its wake it would be answered at the next look, within a second."""
+        self.serve("--workers", "4", second=WHOLE)
+        kept, took = [], []
+        for _ in range(40):
+            # Each worker waits for so much of a second at most, so they don't look soon.
+            time.sleep(0.05)
+            began = time.monotonic()
+            kept.append(self.plug(request("GET", FILE)))
+            self.assertEqual(kept[-1].recv(1), b"H")
+            took.append(time.monotonic() - began)
+        self.assertLess(sorted(took)[len(took) * 9 // 10], 0.1)
+
+
 if __name__ == "__main__":
     unittest.main()

@@ -126,6 +126,21 @@ class Commands(SiteRuns):
         self.assert_fails(2, "can't be on a site", words=["rm", "a#b"])
         self.assert_fails(2, "can't be on a site", words=["mv", "a", "b/../c"])
 
+    def test_mv_renames_a_folder_whose_path_ends_in_a_slash(self):
+        self.assert_done("push", self.place)
+        self.assert_done("mv", "a", "/d/x")
+        self.assert_done("mv", "b", "/d/y/z")
+        self.assertEqual(self.assert_done("mv", "/d/", "e/f"), "/d/ is now /e/f/, by change 5: `site undo 5` takes that back\n")
+        self.assert_serves({"/d/x": None, "/e/f/x": b"a", "/e/f/y/z": b"b"})
+        self.assertEqual(self.told("mv", "e/", "/g/")["to"], "/g/")
+        self.assert_serves({"/g/f/x": b"a", "/g/f/y/z": b"b"})
+        self.assertEqual(kinds(self.changes())[-2:], ["rename-folder", "rename-folder"])
+        self.assert_fails(1, "NoSuchFile", words=["mv", "/d/", "/h"])
+        self.assert_fails(1, "one of the two folders is in the other", words=["mv", "/g/", "/g/h"])
+        self.assert_fails(1, "choose a shorter name", words=["mv", "/g/", "/" + 1_023 * "a"])
+        self.assert_fails(2, "can't be on a site", words=["mv", "/", "/h"])
+        self.assert_fails(2, "can't be on a site", words=["mv", "/g/f/x", "/h/"])
+
     def test_cancel_and_delete_take_deploys_of_their_site_alone(self):
         draft = self.told("push", "--draft", self.place)["deploy"]
         self.assert_fails(2, f"deploy {draft} is one of the site one: --site one", words=["cancel", draft, "--site", "two"])

@@ -202,6 +202,20 @@ class Changes(Faults):
                 self.assert_fails(3, "the reply was lost", "Look: site log", words=words)
                 self.assertEqual(front.count("POST"), 1)
 
+    def test_a_renaming_of_a_folder_whose_reply_was_lost_counts_by_its_page(self):
+        self.write({"/with/index.html": b"page", "/with/a": b"a", "/without/a": b"b"})
+        self.deployed()
+        for folder, is_told in (("/with", True), ("/without", False)):
+            with self.subTest(folder=folder):
+                judge = self.do_once("POST", "/rename-folder", LOSE_REPLY)
+                front = self.stand_before(judge)
+                words = ("mv", f"{folder}/", f"{folder}-new/")
+                if is_told:
+                    self.assert_done(*words)
+                else:
+                    self.assert_fails(3, "the reply was lost", "Look: site log", words=words)
+                self.assertEqual((len(judge.found), front.count("POST"), kinds(self.changes())[-1]), (1, 1, "rename-folder"))
+
     def test_a_change_of_another_kind_meanwhile_leaves_no_doubt(self):
         self.deployed()
 

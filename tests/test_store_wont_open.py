@@ -17,6 +17,7 @@ NOBODY = 65_534
 CANCEL = ("cancel", "one", 1)
 OPEN_A = opening_of({"/a.txt": b"hello"})
 PUBLISH = ("publish", "one", 1)
+RENAMING = ("rename-folder", "one", "/d", "/e")
 DEPLOYED = [OPEN_A, PUBLISH]
 OTHER = b"another file"
 
@@ -73,6 +74,19 @@ class Journals(Stored):
                 with self.subTest(header=header, place=place):
                     self.write_journal(file[:place] + b"\xff" + file[place + 1:])
                     self.assert_fails(3, f"journal: BadRecord {number}")
+
+
+    def test_the_renaming_of_a_folder_is_malformed_in_version_1_alone(self):
+        for entries, number in [([RENAMING], 1), ([*DEPLOYED, RENAMING, ("undo", "one", 3)], 3)]:
+            with self.subTest(entries=entries):
+                self.write(DEPLOYED, b"hello")
+                write_slots(self.folder, journal.write(entries, journal.OLD_HEADER), b"")
+                self.assertRaises(journal.BadRecord, journal.read_in, self.folder)
+                self.assert_fails(3, f"journal: BadRecord {number}")
+
+    def test_the_renaming_of_a_folder_opens_in_version_2(self):
+        self.write([opening_of({"/d/a.txt": b"hello"}), PUBLISH, RENAMING], b"hello")
+        self.assert_converses(serves("/e/a.txt", among=("/e/a.txt", "/d/a.txt")))
 
 
 class Folders(Stored):

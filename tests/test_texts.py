@@ -11,6 +11,7 @@ from lib.client import ABC, HELLO, STATUS_OF, messages, opened, refused, reply, 
 from lib.rows import CHANGES, DEPLOYS, UNDO, Interface, change, delete, get, post, publishing, put, read, undo, uploading
 
 RENAME = "/api/v1/sites/one/rename"
+RENAME_FOLDER = "/api/v1/sites/one/rename-folder"
 ALIASES = "/api/v1/sites/one/aliases"
 
 
@@ -151,12 +152,15 @@ class Refusals(Interface):
             ("NoSuchDraft", post("/api/v1/deploys/1/cancel", None, text("404 Not Found", '{"error":"NoSuchDraft"}'))),
             ("PathTaken", post(RENAME, {"from": "/a", "to": "/b"}, conflict('{"error":"PathTaken"}'))),
             ("SamePath", post(RENAME, {"from": "/a", "to": "/a"}, conflict('{"error":"SamePath"}'))),
+            ("NestedFolder", post(RENAME_FOLDER, {"from": "/a", "to": "/a/b"}, conflict('{"error":"NestedFolder"}'))),
             ("NotSatisfiable", get("/s/one/a", refused("NotSatisfiable", "Content-Range: bytes */5"),
                                    "Range: bytes=5-5")),
             (None, put(f"{ALIASES}/next", {"deploy": 1}, {"entry": 3})),
             ("DeployInUse", delete("/api/v1/deploys/1", conflict('{"alias":"next","error":"DeployInUse"}'))),
             ("Clash", undo(2, conflict('{"cell":"kept 1","change":3,"error":"Clash"}'))),
             (None, undo(3, {"entry": 4})),
+            (None, post(RENAME, {"from": "/a", "to": "/d/a"}, {"entry": 5})),
+            ("PathTooLong", post(RENAME_FOLDER, {"from": "/d", "to": "/" + 1_023 * "d"}, conflict('{"error":"PathTooLong"}'))),
             ("AlreadyUndone", undo(3, conflict('{"error":"AlreadyUndone"}'))),
             ("NotAChange", undo(4, conflict('{"error":"NotAChange"}'))),
         ]

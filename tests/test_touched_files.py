@@ -58,7 +58,7 @@ class TouchedFiles(unittest.TestCase):
                     self.assertTrue((TOP / name).exists() or (TOP / "crates" / name).exists())
 
     def test_a_reason(self):
-        self.assertEqual(touching(r"\bPathTaken\b"), self.named("To add a reason to refuse a change or an undo"))
+        self.assertEqual(touching(r"\bPathTooLong\b"), self.named("To add a reason to refuse a change or an undo"))
 
     def test_a_route(self):
         self.assertEqual(touching(r"\bKeptFile\b|GET, HEAD \| the file at the path of that deploy"), self.named("To add a route"))

@@ -10,8 +10,8 @@ import unittest
 
 from lib.built_crates import BuiltCrate
 from lib.client import SECONDS, digest_of, refused, sent
-from lib.generated_histories import NAMES, PATHS, PROGRAMS_AT_ONCE, SITES
-from lib.plain_history import DRAFT, KEPT, LIVE, Deploy, Entry
+from lib.generated_histories import FOLDERS, NAMES, PATHS, PROGRAMS_AT_ONCE, SITES
+from lib.plain_history import DRAFT, KEPT, LIVE, Deploy, Entry, folders_of
 from lib.plain_world import CHUNK, FAULT, Ask, Phase, World
 from lib.stores import told
 import journal
@@ -27,7 +27,9 @@ CONTENTS = (b"", *SHORT, LONG + b"and more", LONG + LONG[:9])
 CHUNK_OF = {digest_of(piece): piece for content in CONTENTS for piece in (content[:CHUNK], content[CHUNK:]) if piece}
 RANGES = (None, None, None, "bytes=0-3", "bytes=-2", "bytes=1-1,3-", "bytes=0-65535,65530-", "bytes=2-2,0-0,1-1", "bytes=70000-", "lines=1")
 WORDS = {"entry": 10, "publish": 6, "upload": 3, "learn": 2, "enter": 14, "node": 65}
-KINDS = {"open": 6, "publish": 8, "cancel": 1, "alias": 4, "unalias": 2, "rename": 3, "remove": 3, "restore": 4, "delete": 2, "undo": 8}
+KINDS = {
+    "open": 6, "publish": 8, "cancel": 1, "alias": 4, "unalias": 2, "rename": 3, "rename-folder": 3, "remove": 3, "restore": 4, "delete": 2, "undo": 8,
+}
 # What fits the phases of a visitor.
 FITTING = {"idle": ("take",), "wants": ("look",), "missed": ("begin",), "looks": ("look",), "loads": ("answer", "answer", "fault", "lie"),
            "holds": ("main", "hot", "settle", "answer"), "sets": ("settle",), "ends": ("finish",), "joins": ("take",), "has": ("take",)}
@@ -101,6 +103,10 @@ class Player:
         there = [cell[2] for cell in self.state() if cell[:2] == (site, LIVE)]
         return self.one_of(there) if there and self.happens(0.8) else self.one_of(PATHS)
 
+    def folder(self, site):
+        there = sorted({folder for cell in self.state() if cell[:2] == (site, LIVE) for folder in folders_of(cell[2])})
+        return self.one_of(there) if there and self.happens(0.8) else self.one_of(FOLDERS)
+
     def deploy(self):
         is_patch = self.happens(0.3)
         paths = self.random.sample(PATHS, self.one_of((1, 1, 2, 3)))
@@ -113,6 +119,8 @@ class Player:
             return site, self.deploy()
         if kind in ("rename", "remove"):
             return site, self.path(site), *[self.one_of(PATHS)] * (kind == "rename")
+        if kind == "rename-folder":
+            return site, self.folder(site), self.one_of(FOLDERS)
         if kind == "unalias":
             return site, self.one_of(NAMES)
         number = self.number(*{"publish": [DRAFT], "cancel": [DRAFT], "restore": [DRAFT, KEPT]}.get(kind, [KEPT]))
@@ -240,7 +248,7 @@ class Worlds(unittest.TestCase):
         least = {
             "answered 200": 1_000, "answered 206": 400, "answered 404": 300, "answered 416": 20, "failed 200": 300, "failed 206": 50,
             "evicted": 1_000, "flights": 2_000, "joined": 200, "lie": 300, "fault": 300, "entry while one is unpublished": 2_000,
-            **dict.fromkeys(KINDS, 30), **dict.fromkeys(("no undo", "no publish", "no rename"), 50),
+            **dict.fromkeys(KINDS, 30), **dict.fromkeys(("no undo", "no publish", "no rename", "no rename-folder"), 50),
         }
         rare = {word: tally[word] for word, number in least.items() if tally[word] < number}
         self.assertEqual(rare, {}, f"met in all: {sorted(tally.items())}")

@@ -164,7 +164,11 @@ COMMANDS = (
         ("site alias stable 4", "site alias stable --remove"),
         (Option(("--remove",), None, "removes the alias"),),
     ),
-    Command("mv", (Word("FROM"), Word("TO")), "renames a file", "Renames a file of the site, as one change.", ("site mv /about.html /team.html",)),
+    Command(
+        "mv", (Word("FROM"), Word("TO")), "renames a file",
+        "Renames a file of the site, or with a slash at the end of FROM a folder with all files below it, as one change.",
+        ("site mv /about.html /team.html", "site mv /docs/ /guide/"),
+    ),
     Command("rm", (Word("PATH"),), "removes a file", "Removes a file of the site, as one change.", ("site rm /old/page.html",)),
     Command("cancel", (NUMBER,), "drops an open deploy", "Cancels deploy N, which is a draft or was left open. What was uploaded stays known.",
             ("site cancel 7",)),

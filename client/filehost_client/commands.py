@@ -105,10 +105,13 @@ def show_aliases(call, name):
 
 
 def mv(options, output):
-    old, new = check_path(options.word_FROM), check_path(options.word_TO)
+    is_folder = options.word_FROM.endswith("/")
+    old, new = (check_path(word.removesuffix("/") if is_folder else word) for word in (options.word_FROM, options.word_TO))
     call = Call(options, output)
-    made = call.site.rename(old, new)
-    done(call, {"from": old, "to": new, "change": made}, f"{old} is now {new}, by change {made}: `site undo {made}` takes that back")
+    made = call.site.rename_folder(old, new) if is_folder else call.site.rename(old, new)
+    end = "/" if is_folder else ""
+    told = {"from": old + end, "to": new + end, "change": made}
+    done(call, told, f"{told['from']} is now {told['to']}, by change {made}: `site undo {made}` takes that back")
 
 
 def rm(options, output):

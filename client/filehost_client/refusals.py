@@ -19,6 +19,8 @@ TEXTS = {
     "AlreadyUndone": "this change is undone already",
     "PathTaken": "there is a file at the new path already: remove it first",
     "SamePath": "the two paths are the same",
+    "NestedFolder": "one of the two folders is in the other",
+    "PathTooLong": "a file would get a path of over 1,024 bytes: choose a shorter name",
     "TooManyFiles": "a deploy lists at most 10,000 files",
     "HistoryFull": "the host's history is full: it takes no more changes",
     "NotListed": "the deploy doesn't list this path",

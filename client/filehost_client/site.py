@@ -3,12 +3,13 @@
 from .changes import last_number, made_since, parse_changes, publishing_of, undo_of
 from .deploy import Deploy
 from .errors import BadReply, Refused, UnknownOutcome, WrongWords
-from .names import DIGEST, check_path, check_site, in_target
+from .names import DIGEST, check_path, check_site, fault_of_path, in_target
 from .refusals import raise_for
 from .workers import each
 
 # How many files at least are asked for over one connection: as many requests as a host takes over it.
 FEW = 100
+PAGE = "/index.html"
 
 
 class Site:
@@ -155,6 +156,14 @@ class Site:
         found = self.digest(old)
         body = {"from": old, "to": new}
         return self.make("rename", "POST", "rename", body, lambda _: self.digests([old, new]) == {new: found})
+
+    def rename_folder(self, old, new):
+        """Renames a folder: all files below it. Neither path has a slash at its end."""
+        old, new = check_path(old), check_path(new)
+        # Whether a renaming whose reply was lost was this one is told by the page of the folder. If it has none, nothing tells.
+        pages = [page for page in (old + PAGE, new + PAGE) if not fault_of_path(page)]
+        moved = {new + PAGE: digest for page, digest in self.digests(pages).items() if page == old + PAGE}
+        return self.make("rename-folder", "POST", "rename-folder", {"from": old, "to": new}, lambda _: moved and self.digests(pages) == moved)
 
     def remove(self, path):
         """Removes a file."""

@@ -2,18 +2,27 @@
 
 import collections
 import json
+import os
 import random
 import re
 import urllib.parse
 
 from lib.client import digest_of, request, run
-from lib.plain_history import ALIAS, DRAFT, KEPT, LIVE
+from lib.plain_history import ALIAS, DRAFT, KEPT, LIVE, folders_of
 from lib.plain_model import Model, Request
 
 PROGRAMS_AT_ONCE = 2
 
+
+def count_of(histories):
+    """How many are made where so many are usual: as many as FILEHOST_HISTORIES says, if it is set."""
+    return int(os.environ.get("FILEHOST_HISTORIES", histories))
+
+
 SITES = ("one", "two")
-PATHS = ("/a.txt", "/index.html", "/d/c", '/"é".svg')
+PATHS = ("/a.txt", "/index.html", "/d/c", "/d/e/c", "/d-/c", '/"é".svg')
+# Folders that are renamed: one below another, one whose name begins as another's, and some that mostly have nothing.
+FOLDERS = ("/d", "/d/e", "/d-", "/f", "/f/g", "/é")
 NAMES = ("next", "old")
 CONTENTS = (b"", b"first", b"second one", "thïrd".encode(), b"4", b"fifth\r\n\r\n", b"sixth", b"never there")
 CONTENT_OF = {digest_of(content): content for content in CONTENTS}
@@ -31,6 +40,8 @@ MISTAKES = (
     Request("POST", "/api/v1/sites/one/deploys", body=b'{"files":{"/a":null}}'),
     Request("POST", "/api/v1/sites/one/deploys", body=b'{"files":{"/a/../b":null}}'),
     Request("POST", "/api/v1/sites/one/rename", body=b'{"from":"/a.txt","to":"/"}'),
+    Request("POST", "/api/v1/sites/one/rename-folder", body=b'{"from":"/d/","to":"/f"}'),
+    Request("POST", "/api/v1/sites/one/rename-folder", body=b'{"from":"/d"}'),
     Request("POST", "/api/v1/sites/one/undo", body=b'{"change":null}'),
     Request("PUT", "/api/v1/sites/one/aliases/next"),
 )
@@ -43,7 +54,7 @@ def in_json(**members):
 class Generator:
     """Draws requests for what a model of the host has, so that all kinds of answers are frequent."""
 
-    sites, paths, names = SITES, PATHS, NAMES
+    sites, paths, folders, names = SITES, PATHS, FOLDERS, NAMES
     # of how many files a deploy is, each so often
     sizes = (0, 1, 1, 2, 2, 3, 3, 4)
 
@@ -146,6 +157,14 @@ class Generator:
         body = {"from": source[self.happens(0.1):], "to": target}
         return Request("POST", f"/api/v1/sites/{site}/rename", body=in_json(**body))
 
+    def rename_folder(self):
+        site = self.one_of(self.sites)
+        served = sorted({folder for path in self.keys(LIVE, site) for folder in folders_of(path)})
+        source = self.mostly(served, self.folders)
+        target = self.one_of([folder for folder in self.folders if folder != source]) if self.happens(0.95) else source
+        body = {"from": source[self.happens(0.1):], "to": target}
+        return Request("POST", f"/api/v1/sites/{site}/rename-folder", body=in_json(**body))
+
     def remove(self):
         site = self.one_of(self.sites)
         path = self.mostly(self.keys(LIVE, site), self.paths)
@@ -195,7 +214,7 @@ class Generator:
         return self.one_of(MISTAKES)
 
     # What is drawn, each so often: the changes, the requests after which a few deploys are there, and all others.
-    changes = {open: 14, restore: 8, cancel: 3, remove_deploy: 5, move_alias: 9, remove_alias: 4, rename: 9, remove: 5}
+    changes = {open: 14, restore: 8, cancel: 3, remove_deploy: 5, move_alias: 9, remove_alias: 4, rename: 9, rename_folder: 9, remove: 5}
     beginnings = {open: 3, upload: 7, move_alias: 1}
     others = {upload: 15, undo: 18, show_changes: 2, show_deploy: 3, read: 17, mistake: 2}
 
@@ -210,6 +229,35 @@ class Generator:
             yield self.draw(self.beginnings if place < first else self.changes | self.others)
 
 
+class FolderGenerator(Generator):
+    """Draws mostly renamings of folders, among files whose paths stand around theirs in the order of bytes: the folder itself, names that begin as
+    it does, with a byte below or above that of a slash behind, and folders in folders. Some new paths are too long.
+    """
+
+    sites = ("one", "one", "one", "two")
+    paths = (
+        "/a", "/a/a", "/a/a/a", "/a/b", "/a-", "/a-/a", "/a-/b/c", "/a./a", "/a0", "/a0/a", "/aa/a", "/b", "/b/a", "/b/b/c", "/é/a", "/é/é",
+        "/" + "é" * 250 + "/a", "/" + "é" * 250 + "/" + "x" * 300,
+    )
+    folders = ("/a", "/a/a", "/a/b", "/a-", "/a-/b", "/a.", "/a0", "/aa", "/b", "/b/b", "/é", "/c", "/c/c", "/" + "é" * 250, "/" + "y" * 720, "/" + "y" * 1_021)
+    sizes = (1, 2, 3, 5, 8, 12)
+
+    def rename_folder(self):
+        """Mostly one that has files to a path that has none; some undo a renaming by another one."""
+        site = self.one_of(self.sites)
+        served = self.keys(LIVE, site)
+        having = sorted({folder for path in served for folder in folders_of(path)})
+        source = self.mostly(having, self.folders, 0.9)
+        free = [folder for folder in self.folders if folder != source and folder not in having]
+        target = self.mostly(free, (*self.folders, source + "/in", source + "-", source), 0.85)
+        return Request("POST", f"/api/v1/sites/{site}/rename-folder", body=in_json(**{"from": source, "to": target}))
+
+    changes = {
+        Generator.open: 14, Generator.restore: 3, Generator.cancel: 1, Generator.move_alias: 1, Generator.rename: 9, rename_folder: 34, Generator.remove: 8,
+    }
+    others = {Generator.upload: 10, Generator.undo: 30, Generator.show_changes: 2, Generator.read: 5}
+
+
 def views(*models, of=Generator):
     """Requests that read all that is visible in any of these models, of the sites, paths and names that this generator draws: each file of
     each version, and each deploy."""
@@ -218,7 +266,8 @@ def views(*models, of=Generator):
     versions = [f"s/{site}" for site in of.sites]
     versions += [f"d/{site}/{number}" for site, kind, number in cells if kind == KEPT]
     versions += [f"a/{site}/{name}" for site, kind, name in cells if kind == ALIAS]
-    reads = [f"/{version}{urllib.parse.quote(path)}" for version in versions for path in of.paths]
+    paths = sorted({*of.paths, *(key for _, kind, key in cells if kind == LIVE)})
+    reads = [f"/{version}{urllib.parse.quote(path)}" for version in versions for path in paths]
     reads += [f"/a/{site}/{name}/a.txt" for site in of.sites for name in of.names if (site, ALIAS, name) not in cells]
     return [Request("GET", target) for target in reads + [f"/api/v1/deploys/{number}" for number in sorted(numbers)]]
 

@@ -12,12 +12,13 @@ CONNECTIONS = 4
 class Hopping(Served):
     """Each run is one with new nodes, whose host is empty at first."""
 
-    def assert_hops(self, exchanges, seed=None, message=None):
+    def assert_hops(self, exchanges, seed=None, message=None, words=()):
         """Each request is answered with its reply, byte for byte, and nothing comes after the last one.
 
         The connections take turns, and so do the nodes; if there is a seed, connections are drawn by chance. `message` tells of an exchange, by its place.
+        The program is called with these words, and is killed at the end.
         """
-        started = self.serve(nodes=2)
+        started = self.serve(*words, nodes=2)
         plugs = [self.plug(node=connection % 2) for connection in range(CONNECTIONS)]
         drawn = random.Random(seed)
         for place, (asked, wanted) in enumerate(exchanges):

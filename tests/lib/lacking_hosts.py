@@ -3,6 +3,7 @@
 from lib.client import ABC, HELLO, refused
 from lib.generated_histories import in_json
 from lib.plain_model import Request
+from lib.stores import opening_of
 
 LACKING = refused("OutOfMemory")
 LACKING_AND_CLOSED = refused("OutOfMemory", "Connection: close")
@@ -37,6 +38,7 @@ def show(number):
 
 
 RENAME = Request("POST", "/api/v1/sites/one/rename", body=in_json(**{"from": "/a.txt", "to": "/c.txt"}))
+RENAME_FOLDER = Request("POST", "/api/v1/sites/one/rename-folder", body=in_json(**{"from": "/e", "to": "/g"}))
 REMOVE_B = Request("DELETE", "/api/v1/sites/one/files/b.txt")
 LIST = read("/api/v1/sites/one/changes")
 
@@ -49,8 +51,16 @@ CHANGES = [
     opening({"/a.txt": None, "/c.txt": HELLO}, patch=True), undo(14), Request("POST", "/api/v1/deploys/13/cancel"), undo(16),  # 17
     opening({"/d": ABC}, draft=True), undo(18), Request("DELETE", "/api/v1/deploys/1"), undo(20),  # 21
     opening({"/d": ABC}), undo(4), read("/d/one/1/b.txt"), restore(1), undo(24), undo(2), undo(1),  # 25
+    opening({"/e/x": HELLO, "/e/f/y": ABC}, patch=True), RENAME_FOLDER, read("/s/one/g/f/y"), undo(28),  # 29
     LIST, show(13), read("/s/one/a.txt"),
 ]
+
+
+# The entries and the contents of two stores: of a site with folders, and of one in which two of them were renamed, the second one elsewhere.
+FOLDERS = [
+    opening_of({"/e/x": b"hello", "/e/f/y": b"abc", "/k/z": b"abc"}), ("publish", "one", 1), ("rename-folder", "one", "/k", "/l"),
+], [b"hello", b"abc"]
+RENAMED = [*FOLDERS[0][:2], ("rename-folder", "one", "/e", "/g"), FOLDERS[0][2]], FOLDERS[1]
 
 
 def left_by(model, asked):

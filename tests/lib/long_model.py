@@ -6,7 +6,7 @@ That this is what the live changes give from nothing is checked by the plain mod
 
 import bisect
 
-from lib.plain_history import EVERY
+from lib.plain_history import covering
 from lib.plain_model import Model
 
 
@@ -16,7 +16,7 @@ class LongModel(Model):
         self.cells, self.live, self.openings = {}, [], []
         # for each live change the cells that it changed, with their values before it, and what it touches
         self.effects = {}
-        # for each cell, or all of a site and kind, the numbers of the live changes that touch it, in their order
+        # for each cell, all of a site and kind, or all paths below a folder, the numbers of the live changes that touch it, in their order
         self.touching = {}
 
     def copy(self):
@@ -70,7 +70,7 @@ class LongModel(Model):
         """The first of them."""
         found = []
         for cell in self.effects[change][0]:
-            for touched in (cell, (*cell[:2], EVERY)):
+            for touched in covering(cell):
                 numbers = self.touching.get(touched, ())
                 later = bisect.bisect_right(numbers, change)
                 found += [(number, cell) for number in numbers[later:later + 1]]

@@ -31,8 +31,28 @@ LIVE, KEPT, ALIAS, DRAFT = range(4)
 EVERY = None  # means every cell of a site and kind, if a command touches them all
 
 
+class Below(NamedTuple):
+    """Means every path below a folder, if a command touches them all."""
+
+    folder: str
+
+
+def folders_of(path):
+    """The folders that a path is below."""
+    return [path[:place] for place in range(1, len(path)) if path[place] == "/"]
+
+
+def covering(cell):
+    """What a command may name that touches the cell: the cell itself, all of its site and kind, and of a path all below a folder that it is below."""
+    yield cell
+    site, kind, key = cell
+    yield site, kind, EVERY
+    if kind == LIVE:
+        yield from ((site, kind, Below(folder)) for folder in folders_of(key))
+
+
 def is_in(cell, touched):
-    return cell in touched or (*cell[:2], EVERY) in touched
+    return any(one in touched for one in covering(cell))
 
 
 def serving(state, site, files):
@@ -97,6 +117,23 @@ def rename(state, uploads, number, site, first, second):
     return {source: None, target: state[source]}, {source, target}
 
 
+def files_below(state, site, folder):
+    """The paths of the files that the site serves below the folder."""
+    return [cell[2] for cell in state if cell[:2] == (site, LIVE) and folder in folders_of(cell[2])]
+
+
+def rename_folder(state, uploads, number, site, first, second):
+    refuse_where(first == second, "SamePath")
+    refuse_where(first in folders_of(second) or second in folders_of(first), "NestedFolder")
+    moved = {path: second + path[len(first):] for path in files_below(state, site, first)}
+    refuse_where(not moved, "NoSuchFile")
+    refuse_where(any(len(path.encode()) > 1_024 for path in moved.values()), "PathTooLong")
+    refuse_where(files_below(state, site, second), "PathTaken")
+    writes = {(site, LIVE, path): None for path in moved}
+    writes |= {(site, LIVE, new): state[site, LIVE, old] for old, new in moved.items()}
+    return writes, {(site, LIVE, Below(first)), (site, LIVE, Below(second))}
+
+
 def remove(state, uploads, number, site, path):
     refuse_where((site, LIVE, path) not in state, "NoSuchFile")
     return {(site, LIVE, path): None}, {(site, LIVE, path)}
@@ -120,7 +157,7 @@ def remove_deploy(state, uploads, number, site, which):
 
 COMMANDS = {
     "open": open_deploy, "publish": publish, "cancel": cancel, "alias": move_alias, "unalias": remove_alias,
-    "rename": rename, "remove": remove, "restore": restore, "delete": remove_deploy,
+    "rename": rename, "rename-folder": rename_folder, "remove": remove, "restore": restore, "delete": remove_deploy,
 }
 
 

@@ -114,6 +114,13 @@ def number_at(body, name):
     return number_of(str(member_of(object_of(body), name, int, float, str)))
 
 
+def paths_at(body):
+    """The two paths of a renaming."""
+    value = object_of(body)
+    texts = [member_of(value, name, str) for name in ("from", "to")]
+    return [path_of(text) for text in texts]
+
+
 def deploy_of(body):
     """What the body of a deploy lists."""
     value = {"draft": False, "patch": False} | object_of(body)
@@ -266,9 +273,10 @@ class Model(History):
         return telling({"changes": lines[-1_000:]})
 
     def rename(self, request, site):
-        value = object_of(request.body)
-        texts = [member_of(value, name, str) for name in ("from", "to")]
-        return self.change("rename", site, *map(path_of, texts))
+        return self.change("rename", site, *paths_at(request.body))
+
+    def rename_folder(self, request, site):
+        return self.change("rename-folder", site, *paths_at(request.body))
 
     def take_back(self, request, site):
         return telling({"entry": self.undo(site, number_at(request.body, "change"))})
@@ -307,6 +315,7 @@ ROUTES = [(pattern_of(target), methods) for target, methods in {
     "/api/v1/sites/SITE/deploys/NUMBER/restore": {"POST": Model.restore},
     "/api/v1/sites/SITE/aliases/NAME": {"PUT": Model.move_alias, "DELETE": Model.remove_alias},
     "/api/v1/sites/SITE/rename": {"POST": Model.rename},
+    "/api/v1/sites/SITE/rename-folder": {"POST": Model.rename_folder},
     "/api/v1/sites/SITE/files/PATH": {"DELETE": Model.remove},
     "/api/v1/sites/SITE/undo": {"POST": Model.take_back},
     "/api/v1/sites/SITE/changes": {"GET": Model.show_changes},

@@ -61,11 +61,11 @@ class Room(Crowds):
         values = dict(line.split(":", 1) for line in lines)
         return tuple(int(values[name].split()[0]) / 1_024 for name in ("VmRSS", "VmHWM"))
 
-    def reader(self, target):
+    def reader(self, target, *fields):
         """A connection that asks for a file, takes few bytes which it doesn't read, and has got the first of them."""
         plug = Plug()
         self.addCleanup(plug.close)
-        plug.come(self.port, request("GET", target, "Connection: close"), room=4_096)
+        plug.come(self.port, request("GET", target, "Connection: close", *fields), room=4_096)
         self.assertEqual(plug.recv(1), b"H")
         return plug
 

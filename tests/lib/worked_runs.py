@@ -49,6 +49,10 @@ def renaming(source, target):
     return asking("POST", f"{SITE}/rename", **{"from": source, "to": target})
 
 
+def renaming_folder(source, target, site="one"):
+    return asking("POST", f"/api/v1/sites/{site}/rename-folder", **{"from": source, "to": target})
+
+
 def removing(path):
     return request("DELETE", f"{SITE}/files{urllib.parse.quote(path)}")
 

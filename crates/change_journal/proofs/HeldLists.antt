@@ -4,14 +4,14 @@ use Rattle.std.proofs.lemmas.List.{drop_at, get_or_append_left}
 use Rattle.host_disk.specs.Crashes.{Torn}
 use Rattle.site_change.specs.declared.entries.Entry.{Entry}
 use Rattle.record_file.specs.Frames.{Holds, MayHold, framed, half_open, shut, before, between, after}
-use Rattle.record_file.specs.Pairs.{AreForeign, FoundBoth, HoldBoth, MayFollow, MayLead, Reads, ReadsBad, ReadsRecord, ReadsShut, first, second, read, none}
+use Rattle.record_file.specs.Pairs.{AreForeign, FoundBoth, HoldBoth, MayFollow, MayLead, Reads, ReadsBad, ReadsOld, ReadsRecord, ReadsShut, first, second, read, none}
 use Rattle.record_file.specs.Slots.{HasFront, IsBelow, IsHeader, IsInUse, version_1, version_2}
 use Rattle.entry_texts.specs.Spells.{IsWritable, entry_text}
 use Rattle.change_journal.specs.Texts.{HoldsEntries, IsText, texts}
 use Rattle.change_journal.specs.Files.{header, opened}
 use Rattle.change_journal.proofs.Entrywise.{found_same, left_entries, texts-push}
 use Rattle.record_file.proofs.LookSteps.{front_short, front_used, opened_front, shown_used}
-use Rattle.record_file.proofs.OneRead.{led_turned}
+use Rattle.record_file.proofs.OneRead.{led_turned, old_led}
 use Rattle.record_file.proofs.OneWalk.{same_head}
 use Rattle.record_file.proofs.PairSteps.{below_none, lead_front, lead_is, turned_reads}
 use Rattle.record_file.proofs.PutSteps.{opened-push, opens}
@@ -21,28 +21,36 @@ use Rattle.record_file.specs.declared.headers.Version.TheVariants.{Current}
 in_first : (bodies : List (List ℕ)) (file beside : List ℕ) → IsBelow 1 beside → Holds header bodies file → HoldBoth bodies file beside
 in_first bodies file beside below holds = read (first 1 header (version_2 refl refl) holds below)
 
+-- a file of version 2 beside one that isn't read
+old_beside : (bodies : List (List ℕ)) (gate : ℕ) (rest file beside : List ℕ) → file ≡ opened bodies ++ gate ∷ rest → IsBelow 1 beside → ReadsOld file beside → ⊥
+old_beside bodies gate rest file beside is below reads =
+    omega (arith, old_led 1 file beside (record { header = header; is_header = version_2 refl refl; front = opened_front header bodies gate rest file is }) below reads)
+
 pub gate_open : (entries : List Entry) (entry : Entry) (rest beside : List ℕ) → All IsWritable (entries ++ entry ∷ []) → IsBelow 1 beside → HoldsEntries (entries ++ entry ∷ []) (opened (texts entries) ++ 1 ∷ (framed (entry_text entry) ++ 0 ∷ rest)) beside
 gate_open entries entry rest beside writable below =
     let file : List ℕ = opened (texts entries) ++ 1 ∷ (framed (entry_text entry) ++ 0 ∷ rest) in
     record {
       writable = writable;
+      old = λ reads. absurd (old_beside (texts entries) 1 (framed (entry_text entry) ++ 0 ∷ rest) file beside refl below reads);
       holds = subst (λ (l : List (List ℕ)). HoldBoth l file beside) (sym (texts-push entries entry)) (in_first (texts entries ++ entry_text entry ∷ []) file beside below (shut (opens header (texts entries) (entry_text entry) file (record { rest = rest; is = refl }))));
     }
 
 pub gate_not_open : (entries : List Entry) (entry : Entry) (gate : ℕ) (rest beside : List ℕ) → All IsWritable entries → gate ≢ 1 → IsBelow 1 beside → HoldsEntries entries (opened (texts entries) ++ gate ∷ (framed (entry_text entry) ++ 0 ∷ rest)) beside
 gate_not_open entries entry zero rest beside writable other below = record {
   writable = writable;
+  old = λ reads. absurd (old_beside (texts entries) 0 _ _ beside refl below reads);
   holds = in_first (texts entries) _ beside below (shut (record { rest = framed (entry_text entry) ++ 0 ∷ rest; is = refl }));
 }
 gate_not_open entries entry (suc zero) rest beside writable other below = absurd (other refl)
 gate_not_open entries entry (suc (suc gate)) rest beside writable other below = record {
   writable = writable;
+  old = λ reads. absurd (old_beside (texts entries) (suc (suc gate)) _ _ beside refl below reads);
   holds = in_first (texts entries) _ beside below (half_open (entry_text entry) (record { gate = suc (suc gate); rest = rest; neither = omega arith; is = refl }));
 }
 
 -- the order of the slots doesn't matter
 pub turned_entries : (entries : List Entry) (a b : List ℕ) → HoldsEntries entries a b → HoldsEntries entries b a
-turned_entries entries a b held = record { writable = held.writable; holds = turned held.holds }
+turned_entries entries a b held = record { writable = held.writable; old = λ reads. held.old (turned_reads _ b a reads); holds = turned held.holds }
   where
     turned : HoldBoth (texts entries) a b → HoldBoth (texts entries) b a
     turned (read reads) = read (turned_reads _ a b reads)
@@ -98,7 +106,11 @@ gate_first entries entry n =
 -- a slot beside an older one is in use only with all of its file
 pub shown_has_file : (entries : List Entry) (entry : Entry) (file beside : List ℕ) → All IsWritable (entries ++ entry ∷ []) → MayFollow 0 (texts entries) (entry_text entry) file → IsInUse file → IsBelow 1 beside → HoldsEntries entries beside file ⊎ HoldsEntries (entries ++ entry ∷ []) beside file
 shown_has_file entries entry file beside writable (inl below) used under = absurd (below_none file below used)
-shown_has_file entries entry file beside writable (inr next) used under = left_entries entries entry beside file writable (led_turned (texts entries) (entry_text entry) 1 beside file next under)
+shown_has_file entries entry file beside writable (inr next) used under = left_entries entries entry beside file writable (λ reads. absurd (next_new reads)) (led_turned (texts entries) (entry_text entry) 1 beside file next under)
+  where
+    next_new : ReadsOld beside file → ⊥
+    next_new reads =
+        omega (arith, old_led 1 file beside (record { header = next.header; is_header = next.is_header; front = lead_front 1 (texts entries) (entry_text entry) file next }) under (turned_reads _ beside file reads))
 
 -- what a crash may leave of a slot that is shown before its file is synced
 no_file : (bodies : List (List ℕ)) (body : List ℕ) → MayFollow 0 bodies body (1 ∷ (0 ∷ [])) → ⊥
@@ -146,7 +158,7 @@ empty_record (first g h is has below) = not_used (front_used h [] (opened_front 
 empty_record (second g h is has below) = not_used (front_used h [] (opened_front h [] 1 has.rest [] has.is))
 
 -- records are counted from 1 on
-pub number_none : (one other : List ℕ) → ReadsBad (λ before. IsText) 0 one other → ⊥
+pub number_none : (one other : List ℕ) → ReadsBad (λ header before. IsText header) 0 one other → ⊥
 number_none one other (first g h is bad below) = omega (arith, bad.number_is)
 number_none one other (second g h is bad below) = omega (arith, bad.number_is)
 

@@ -4,14 +4,20 @@ use Rattle.std.proofs.lemmas.Bool.{false≢true}
 use Rattle.std.proofs.lemmas.List.Elements.{All-push}
 use Rattle.site_change.specs.declared.entries.Entry.{Entry}
 use Rattle.record_file.specs.declared.slots.Slots.{Slots}
-use Rattle.record_file.specs.Pairs.{ArePaired, BothLeave, Order, first_of, order_of, second_of}
+use Rattle.record_file.specs.Pairs.{ArePaired, BothLeave, IsOldOrder, Order, first_of, order_of, second_of}
 use Rattle.change_journal.specs.Held.{IsSound}
 use Rattle.entry_texts.specs.Spells.{IsWritable, entry_text}
 use Rattle.change_journal.specs.Texts.{AllStored, HoldsEntries, IsRecordOf, LeavesNext, MayHoldMore, MayHoldNext, texts}
 use Rattle.entry_texts.proofs.Entries.{entry_length}
 use Rattle.record_file.proofs.NotWhole.{framed_size}
+use Rattle.record_file.proofs.OneRead.{paired_new}
 use Rattle.record_file.proofs.PairSteps.{paired_reads}
 use Rattle.change_journal.proofs.Entrywise.{next_holds, texts-push}
+
+-- what is open is of version 2
+pub order_new : (turned : Bool) → IsOldOrder (order_of turned) → ⊥
+order_new false is = omega (arith, is)
+order_new true is = omega (arith, is)
 
 pub record_length : (entry : Entry) (bytes : List ℕ) → IsRecordOf entry bytes → (5 ≤ length bytes) × (length bytes ≤ 10470075)
 record_length entry bytes spelled =
@@ -23,25 +29,26 @@ record_length entry bytes spelled =
 module _ {D : Type 0} (moment : D → ℕ) (left_since : D → ℕ → List ℕ → Type 0) (may_leave : D → List ℕ → Type 0) where
   -- what is settled is stored
   pub all_stored : (slots : Slots D) (entries : List Entry) → All IsWritable entries → ArePaired may_leave slots (texts entries) → AllStored (may_leave (first_of slots)) (may_leave (second_of slots)) entries
-  all_stored slots entries writable paired = λ a b here there. record { writable = writable; shut = paired_reads may_leave slots (texts entries) paired a b here there }
+  all_stored slots entries writable paired = λ a b here there. record { writable = writable; old = λ reads. absurd (paired_new may_leave slots (texts entries) paired a b here there reads); shut = paired_reads may_leave slots (texts entries) paired a b here there }
 
   -- while an entry is put after others
-  pub next_moments : (order : Order) (first second new_first new_second : D) (entries : List Entry) (entry : Entry) → All IsWritable entries → IsWritable entry → BothLeave moment left_since order (texts entries) (entry_text entry) first second new_first new_second → (o : Order) × LeavesNext moment left_since o entries entry first second new_first new_second
-  next_moments order first second new_first new_second entries entry writable lawful run = (order, record { writable = All-push IsWritable entries entry writable lawful; leaves = run })
+  pub next_moments : (order : Order) (first second new_first new_second : D) (entries : List Entry) (entry : Entry) → All IsWritable entries → IsWritable entry → (IsOldOrder order → ⊥) → BothLeave moment left_since order (texts entries) (entry_text entry) first second new_first new_second → (o : Order) × LeavesNext moment left_since o entries entry first second new_first new_second
+  next_moments order first second new_first new_second entries entry writable lawful new run = (order, record { writable = All-push IsWritable entries entry writable lawful; old = λ is. absurd (new is); leaves = run })
 
-  pub held_moments : (order : Order) (first second new_first new_second : D) (entries : List Entry) (entry : Entry) → All IsWritable entries → IsWritable entry → BothLeave moment left_since order (texts entries) (entry_text entry) first second new_first new_second
+  pub held_moments : (order : Order) (first second new_first new_second : D) (entries : List Entry) (entry : Entry) → All IsWritable entries → IsWritable entry → (IsOldOrder order → ⊥) → BothLeave moment left_since order (texts entries) (entry_text entry) first second new_first new_second
       → (a b : List ℕ) → left_since new_first (moment first) a → left_since new_second (moment second) b → HoldsEntries entries a b ⊎ HoldsEntries (entries ++ entry ∷ []) a b
-  held_moments order first second new_first new_second entries entry writable lawful run = λ a b here there.
-      next_holds order entries entry a b (All-push IsWritable entries entry writable lawful) (run.one.each a here) (run.other.each b there)
+  held_moments order first second new_first new_second entries entry writable lawful new run = λ a b here there.
+      next_holds order entries entry a b (All-push IsWritable entries entry writable lawful) (λ is. absurd (new is)) (run.one.each a here) (run.other.each b there)
 
   module _ (counts : (d : D) (t : ℕ) (c : List ℕ) → t ≤ moment d → may_leave d c → left_since d t c) where
     -- what a crash leaves after a put that the device failed
-    pub torn_after : (order : Order) (first second new_first new_second : D) (entries : List Entry) (entry : Entry) → All IsWritable entries → IsWritable entry → BothLeave moment left_since order (texts entries) (entry_text entry) first second new_first new_second → MayHoldMore (may_leave new_first) (may_leave new_second) entries
-    torn_after order first second new_first new_second entries entry writable lawful run = record {
+    pub torn_after : (order : Order) (first second new_first new_second : D) (entries : List Entry) (entry : Entry) → All IsWritable entries → IsWritable entry → (IsOldOrder order → ⊥) → BothLeave moment left_since order (texts entries) (entry_text entry) first second new_first new_second → MayHoldMore (may_leave new_first) (may_leave new_second) entries
+    torn_after order first second new_first new_second entries entry writable lawful new run = record {
       next = entry;
       order = order;
       left = record {
         writable = All-push IsWritable entries entry writable lawful;
+        old = λ is. absurd (new is);
         one = λ c left. run.one.each c (counts new_first (moment first) c run.one.later left);
         other = λ c left. run.other.each c (counts new_second (moment second) c run.other.later left);
       };
@@ -54,7 +61,7 @@ module _ {D : Type 0} (moment : D → ℕ) (left_since : D → ℕ → List ℕ 
       where
         by_case : (broken : Bool) → old.records.broken ≡ broken → MayHoldMore (may_leave (first_of new)) (may_leave (second_of new)) entries
         by_case true is = subst (λ (s : Slots D). MayHoldMore (may_leave (first_of s)) (may_leave (second_of s)) entries) (sym (same is)) (was is)
-        by_case false is = torn_after (order_of old.turned) (first_of old) (second_of old) (first_of new) (second_of new) entries entry writable lawful (run is)
+        by_case false is = torn_after (order_of old.turned) (first_of old) (second_of old) (first_of new) (second_of new) entries entry writable lawful (order_new old.turned) (run is)
 
 -- a journal with the entry that was put
 pub sound_with : {D : Type 0} (modelled : Bool) (may_leave : D → List ℕ → Type 0) (old new : Slots D) (entries more : List Entry) (entry : Entry)

@@ -1,4 +1,5 @@
 pub mod Entrywise
+mod HeldLawful
 mod HeldLists
 mod JournalSteps
 mod OpenedJournals

@@ -14,9 +14,10 @@ use Rattle.entry_texts.specs.Spells.{IsWritable, entry_text}
 use Rattle.change_journal.specs.Files.{opened}
 use Rattle.change_journal.specs.Held.{IsSound}
 use Rattle.change_journal.specs.Texts.{AllStored, HoldsEntries, IsOne, IsText, LeavesNext, MayHoldNext, texts, in_first, in_second}
-use Rattle.change_journal.proofs.Entrywise.{found_entries, held_no_bad, held_no_other, length-texts, may_be_put}
+use Rattle.change_journal.proofs.HeldLawful.{held_no_bad}
+use Rattle.change_journal.proofs.Entrywise.{found_entries, held_no_other, length-texts, may_be_put}
 use Rattle.change_journal.proofs.JournalSteps.{all_stored}
-use Rattle.record_file.proofs.OneRead.{found_not_bad, bad_known, found_not_foreign, record_known}
+use Rattle.record_file.proofs.OneRead.{found_not_bad, bad_known, found_not_foreign, lawful_found, record_known}
 use Rattle.record_file.proofs.PairSteps.{opened_paired}
 
 -- the bodies that were handed on are the texts of these entries
@@ -30,7 +31,7 @@ none_taken (e ∷ log) none = absurd (omega (arith, ap length none))
 -- two slots that were opened, by whether the second one is read
 abbrev pub HasOpenedSo : {D : Type 0} → (seen : D → List ℕ) → (may_leave : D → List ℕ → Type 0) → List Entry → Opened → (old_first old_second first second : D) → Type 0
 HasOpenedSo seen may_leave log at old_first old_second first second =
-    HasOpened (AreOf log) (λ before. IsText) at.position.gate at.position.count (seen old_first) (seen old_second) (cond at.turned (seen second) (seen first)) (cond at.turned (may_leave second) (may_leave first)) (cond at.turned (may_leave first) (may_leave second))
+    HasOpened (AreOf log) (λ header before. IsText header) at.position.gate at.position.count (seen old_first) (seen old_second) (cond at.turned (seen second) (seen first)) (cond at.turned (may_leave second) (may_leave first)) (cond at.turned (may_leave first) (may_leave second))
 
 module _ {D : Type 0} (seen : D → List ℕ) (may_leave : D → List ℕ → Type 0) (log : List Entry) (at : Opened) (old_first old_second first second : D) where
   pub opened_sound : (modelled : Bool) (slots : Slots D) (held : List Entry) → held ≡ log → first_of slots ≡ first → second_of slots ≡ second → slots.turned ≡ at.turned → slots.records.position ≡ at.position → slots.records.broken ≡ false
@@ -46,12 +47,15 @@ module _ {D : Type 0} (seen : D → List ℕ) (may_leave : D → List ℕ → Ty
   }
 
   module _ (o : HasOpenedSo seen may_leave log at old_first old_second first second) where
-    pub found_texts : FoundBoth (texts log) (seen old_first) (seen old_second)
-    found_texts = subst (λ (bs : List (List ℕ)). FoundBoth bs (seen old_first) (seen old_second)) o.has.0 o.found
+    found_bodies : FoundBoth o.bodies (seen old_first) (seen old_second)
+    found_bodies = lawful_found (λ header before. IsText header) o.bodies (seen old_first) (seen old_second) o.found
 
-    pub not_refused : at.position.count ≤ 1000000 → AreRefused (λ before. IsText) (seen old_first) (seen old_second) → ⊥
-    not_refused few (inl foreign) = found_not_foreign o.bodies (seen old_first) (seen old_second) o.found foreign
-    not_refused few (inr bad) = found_not_bad (λ before. IsText) bad.0 o.bodies (seen old_first) (seen old_second) o.lawful (omega (arith, o.made.count_is, few)) o.found bad.1
+    pub found_texts : FoundBoth (texts log) (seen old_first) (seen old_second)
+    found_texts = subst (λ (bs : List (List ℕ)). FoundBoth bs (seen old_first) (seen old_second)) o.has.0 found_bodies
+
+    pub not_refused : at.position.count ≤ 1000000 → AreRefused (λ header before. IsText header) (seen old_first) (seen old_second) → ⊥
+    not_refused few (inl foreign) = found_not_foreign o.bodies (seen old_first) (seen old_second) found_bodies foreign
+    not_refused few (inr bad) = found_not_bad (λ header before. IsText header) bad.0 o.bodies (seen old_first) (seen old_second) (omega (arith, o.made.count_is, few)) o.found bad.1
 
     pub found_had : (had : List Entry) → HoldsEntries had (seen old_first) (seen old_second) → log ≡ had
     found_had had held = found_entries log had (seen old_first) (seen old_second) o.has.1 found_texts held
@@ -64,7 +68,7 @@ module _ {D : Type 0} (seen : D → List ℕ) (may_leave : D → List ℕ → Ty
         by_turn true exactly stale = in_second exactly stale
 
 -- slots that hold entries are refused for the device and for want of memory alone
-pub stops_only : (fault : OpenFault) (had : List Entry) (first second : List ℕ) → length had ≤ 1000000 → HoldsEntries had first second → (fault ≡ BadHeader → AreForeign first second) → ((i : ℕ) → fault ≡ BadRecord i → ReadsBad (λ before. IsText) i first second)
+pub stops_only : (fault : OpenFault) (had : List Entry) (first second : List ℕ) → length had ≤ 1000000 → HoldsEntries had first second → (fault ≡ BadHeader → AreForeign first second) → ((i : ℕ) → fault ≡ BadRecord i → ReadsBad (λ header before. IsText header) i first second)
     → (fault ≡ Device) ⊎ (fault ≡ OutOfMemory)
 stops_only BadHeader had first second few held foreign bad = absurd (held_no_other had first second held (foreign refl))
 stops_only (BadRecord i) had first second few held foreign bad = absurd (held_no_bad had i first second few held (bad i refl))
@@ -72,14 +76,14 @@ stops_only Device had first second few held foreign bad = inl refl
 stops_only OutOfMemory had first second few held foreign bad = inr refl
 
 -- slots that are no journal have no record that may lack memory
-pub judged : (fault : OpenFault) (first second : List ℕ) → AreForeign first second → (fault ≡ OutOfMemory → ReadsRecord first second) → ((i : ℕ) → fault ≡ BadRecord i → ReadsBad (λ before. IsText) i first second)
+pub judged : (fault : OpenFault) (first second : List ℕ) → AreForeign first second → (fault ≡ OutOfMemory → ReadsRecord first second) → ((i : ℕ) → fault ≡ BadRecord i → ReadsBad (λ header before. IsText header) i first second)
     → (fault ≡ BadHeader) ⊎ (fault ≡ Device)
 judged BadHeader first second none memory bad = inl refl
-judged (BadRecord i) first second none memory bad = absurd (bad_known (λ before. IsText) i first second (bad i refl) none)
+judged (BadRecord i) first second none memory bad = absurd (bad_known (λ header before. IsText header) i first second (bad i refl) none)
 judged Device first second none memory bad = inr refl
 judged OutOfMemory first second none memory bad = absurd (record_known first second (memory refl) none)
 
 -- what is left while two slots with such entries are opened
 pub opening_moments : {D : Type 0} (moment : D → ℕ) (left_since : D → ℕ → List ℕ → Type 0) (may_leave : D → List ℕ → Type 0) (order : Order) (first second new_first new_second : D) (had : List Entry) (next : Entry) → MayHoldNext order had next (may_leave first) (may_leave second)
-    → (MayBePut (λ before. IsText) (texts had) (entry_text next) → BothLeave moment left_since order (texts had) (entry_text next) first second new_first new_second) → LeavesNext moment left_since order had next first second new_first new_second
-opening_moments moment left_since may_leave order first second new_first new_second had next left run = record { writable = left.writable; leaves = run (may_be_put had next left.writable) }
+    → (MayBePut (texts had) (entry_text next) → BothLeave moment left_since order (texts had) (entry_text next) first second new_first new_second) → LeavesNext moment left_since order had next first second new_first new_second
+opening_moments moment left_since may_leave order first second new_first new_second had next left run = record { writable = left.writable; old = left.old; leaves = run (may_be_put had next left.writable) }

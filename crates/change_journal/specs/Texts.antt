@@ -4,8 +4,10 @@ use Rattle.change_log.specs.Logs.{Log, with_entry}
 use Rattle.site_change.specs.declared.entries.Entry.{Entry}
 use Rattle.record_file.specs.Frames.{framed}
 use Rattle.record_file.specs.Openings.{IsExactly}
-use Rattle.record_file.specs.Slots.{AllStale}
-use Rattle.record_file.specs.Pairs.{BothLeave, HoldBoth, LeftOfFirst, LeftOfSecond, Order, ReadsShut}
+use Rattle.record_file.specs.Slots.{AllStale, old_header}
+use Rattle.record_file.specs.Pairs.{BothLeave, HoldBoth, LeftOfFirst, LeftOfSecond, IsOldOrder, Order, ReadsOld, ReadsShut}
+use Rattle.entry_texts.specs.declared.versions.Version.TheVariants.{First}
+use Rattle.entry_texts.specs.Versions.{IsOfVersion}
 use Rattle.entry_texts.specs.Spells.{IsWritable, entry_text}
 
 -- the texts of the entries of a log
@@ -17,19 +19,30 @@ pub record IsRecordOf (entry : Entry) (bytes : List ℕ) : Type 0 where
   pub writable : IsWritable entry
   pub is : bytes ≡ framed (entry_text entry) ++ 0 ∷ []
 
--- bytes are the text of an entry
-abbrev pub IsText : List ℕ → Type 0
-IsText body = (entry : Entry) × (IsWritable entry × (body ≡ entry_text entry))
+-- a file with this header may have an entry: in one of version 1 no folder is renamed
+abbrev pub MayHave : List ℕ → Entry → Type 0
+MayHave header entry = header ≡ old_header → IsOfVersion First entry
+
+-- bytes are the text of an entry that a file with this header may have
+abbrev pub IsText : List ℕ → List ℕ → Type 0
+IsText header body = (entry : Entry) × (IsWritable entry × (MayHave header entry × (body ≡ entry_text entry)))
+
+-- these entries may be those of a file of version 1
+abbrev pub AreOld : Log → Type 0
+AreOld log = All (IsOfVersion First) log
 
 -- Two slots hold the entries of a log. In the slot in use with the greater generation their texts are behind open gates, and then comes a 0, or a
--- gate that is neither with one whole record of any body and a 0 behind it; or neither slot is in use, and there are none.
+-- gate that is neither with one whole record of any body and a 0 behind it; or neither slot is in use, and there are none. A file of version 1 has
+-- only entries that it may have.
 pub record HoldsEntries (log : Log) (first second : List ℕ) : Type 0 where
   pub writable : All IsWritable log
+  pub old : ReadsOld first second → AreOld log
   pub holds : HoldBoth (texts log) first second
 
 -- they hold these entries, with a gate of 0 after them
 pub record IsStored (log : Log) (first second : List ℕ) : Type 0 where
   pub writable : All IsWritable log
+  pub old : ReadsOld first second → AreOld log
   pub shut : ReadsShut (texts log) first second
 
 -- whatever a crash leaves of the one slot and of the other, these entries are stored
@@ -38,15 +51,18 @@ AllStored first second log = (a b : List ℕ) → first a → second b → IsSto
 
 -- What a stop may leave of two slots of this order while an entry is put after these, or while they are opened. The slot that is read has these,
 -- with a 0 and any bytes behind them; or with the record of that entry whole behind a gate that is neither 0 nor open; or these and that entry. The
--- other slot isn't read beside it, or has the file of the next generation, with these or those. Or neither is in use, and there are none.
+-- other slot isn't read beside it, or has the file of the next generation, with these or those. Or neither is in use, and there are none. If a file
+-- of version 1 is read, it may have all of them.
 pub record MayHoldNext (order : Order) (log : Log) (entry : Entry) (first second : List ℕ → Type 0) : Type 0 where
   pub writable : All IsWritable (with_entry log entry)
+  pub old : IsOldOrder order → AreOld (with_entry log entry)
   pub one : (c : List ℕ) → first c → LeftOfFirst order (texts log) (entry_text entry) c
   pub other : (c : List ℕ) → second c → LeftOfSecond order (texts log) (entry_text entry) c
 
 -- a crash at any moment since leaves that
 pub record LeavesNext {D : Type 0} (moment : D → ℕ) (left_since : D → ℕ → List ℕ → Type 0) (order : Order) (log : Log) (entry : Entry) (first second new_first new_second : D) : Type 0 where
   pub writable : All IsWritable (with_entry log entry)
+  pub old : IsOldOrder order → AreOld (with_entry log entry)
   pub leaves : BothLeave moment left_since order (texts log) (entry_text entry) first second new_first new_second
 
 -- what a put that the device failed may have left: there is one entry more, and whatever a crash leaves is what a stop may leave while it is put

@@ -71,10 +71,10 @@ impl<D: Disk> Journal<D> {
         ensures bad_header { IsTrue D.is_modelled
             → IfErr result (λ stop. stop.fault ≡ BadHeader → AreForeign (D.seen first) (D.seen second)) }
         ensures bad_record { IsTrue D.is_modelled → IfErr result (λ stop. (i : ℕ) → stop.fault ≡ BadRecord i
-            → ReadsBad (λ before. IsText) i (D.seen first) (D.seen second)) }
+            → ReadsBad (λ header before. IsText header) i (D.seen first) (D.seen second)) }
         ensures unwritten { IsTrue D.is_modelled → IfErr result (λ stop. (stop.fault ≡ Device → ⊥)
             → BothOnlyRead D.seen D.may_leave D.moment D.left_since first second stop.first stop.second) }
-        ensures refused { IsTrue D.is_modelled → AreRefused (λ before. IsText) (D.seen first) (D.seen second)
+        ensures refused { IsTrue D.is_modelled → AreRefused (λ header before. IsText header) (D.seen first) (D.seen second)
             → MatchResult result (λ _. ⊥)
             (λ stop. BothOnlyRead D.seen D.may_leave D.moment D.left_since first second stop.first stop.second) }
         ensures old_first { IsTrue D.is_modelled → HasFront old_header (D.seen first) → MatchResult result
@@ -94,7 +94,7 @@ impl<D: Disk> Journal<D> {
             → IfErr result (λ stop. stop.fault ≡ OutOfMemory → ReadsRecord (D.seen first) (D.seen second)) }
         ensures no_journal { IsTrue D.is_modelled → AreForeign (D.seen first) (D.seen second)
             → MatchResult result (λ _. ⊥) (λ stop. (stop.fault ≡ BadHeader) ⊎ (stop.fault ≡ Device)) }
-        ensures reason { IsTrue D.is_modelled → AreRefused (λ before. IsText) (D.seen first) (D.seen second)
+        ensures reason { IsTrue D.is_modelled → AreRefused (λ header before. IsText header) (D.seen first) (D.seen second)
             → IfErr result (λ stop. stop.fault ≡ Device
             → MayFailReading D.seen D.may_fail (D.seen first) ⊎ MayFailReading D.seen D.may_fail (D.seen second)) }
         ensures cause { MatchResult result

@@ -99,7 +99,7 @@ pub fn wrong_answers_are_refused<D: Disk>()
     ensures other_stop { ¬ (TellsStop open_fault.BadHeader 0 1) }
     ensures in_range { (site : SiteName) → ¬ (IsInRange (Undo site 0)) }
     ensures takes_memory { ¬ (TakesMemory []) }
-    ensures text { ¬ (IsText []) }
+    ensures text { (header : List ℕ) → ¬ (IsText header []) }
     ensures path { ¬ (BeginsWithPath []) }
     ensures listing { ¬ (BeginsWithListing []) }
     ensures all_stored { ¬ (AllStored (λ c. ⊤) (λ c. ⊤) empty_log) }
@@ -107,9 +107,9 @@ pub fn wrong_answers_are_refused<D: Disk>()
     ensures no_gate { ¬ (ReadsRecord [] []) }
     ensures past_the_end { (file : List ℕ) → ¬ (ReadsWithin file (ReadAt 0 (length file + 1))) }
     ensures never_fails { (file : List ℕ) → ¬ (MayFailReading D.seen (λ disk call. ⊥) file) }
-    ensures bad_record { (first second : List ℕ) → ¬ (ReadsBad (λ before. IsText) 0 first second) }
+    ensures bad_record { (first second : List ℕ) → ¬ (ReadsBad (λ header before. IsText header) 0 first second) }
     ensures kept { (log : Log) (n : ℕ) (first second : List ℕ) → HoldsEntries log first second → last_number log ≤ 1000000
-        → ¬ (ReadsBad (λ before. IsText) n first second) }
+        → ¬ (ReadsBad (λ header before. IsText header) n first second) }
     ensures no_record { (rest : List ℕ) → ¬ (IsNoRecord (λ body. ⊤) (framed [] ++ 0 ∷ rest)) }
     ensures only_read { (old new : D) → D.seen new ≢ D.seen old → ¬ (IsOnlyRead D.seen D.may_leave D.moment D.left_since old new) }
 {}

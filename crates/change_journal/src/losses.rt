@@ -3,7 +3,8 @@ ghost use Rattle.std.specs.Prelude.{IsTrue, ⊤};
 ghost use Rattle.record_file.specs.Pairs.{BothOnlyRead};
 ghost use Rattle.change_journal.specs.Texts.{IsText};
 
-use entry_texts::{DecodeFault, decode};
+use crate::collecting::decode_of;
+use entry_texts::DecodeFault;
 use host_disk::Disk;
 use record_file::{Bodies, BodyFault, Looked, look_ahead};
 use std::alloc::Global;
@@ -15,12 +16,12 @@ struct Judge {
 }
 
 impl Bodies for Judge {
-    ghost is_lawful = { λ before. IsText };
+    ghost is_lawful = { λ header before. IsText header };
 
     ghost has = { λ judge bodies. ⊤ };
 
-    fn take(&mut self, body: &[u8]) -> Result<(), BodyFault> {
-        match decode(self.alloc, body) {
+    fn take(&mut self, header: &[u8], body: &[u8]) -> Result<(), BodyFault> {
+        match decode_of(self.alloc, header, body) {
             Ok(_) => Ok(()),
             Err(DecodeFault::BadEntry) => Err(BodyFault::Bad),
             Err(DecodeFault::OutOfMemory) => Err(BodyFault::OutOfMemory),

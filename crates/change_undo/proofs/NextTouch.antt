@@ -7,10 +7,10 @@ use Rattle.site_state.specs.Changes.{cells_of}
 use Rattle.site_change.specs.declared.plans.Plan.{Plan}
 use Rattle.site_change.specs.declared.touched.Touched.{Touched}
 use Rattle.site_change.specs.TouchedCells.{is_touched}
-use Rattle.touch_index.specs.Keys.{covering, touched_keys}
+use Rattle.touch_index.specs.Keys.{covers, touched_keys}
 use Rattle.touch_index.specs.Next.{IsNext}
 use Rattle.touch_index.specs.Postings.{Postings, is_posted, may_touch_any}
-use Rattle.touch_index.proofs.Covered.{meet, touched-covered}
+use Rattle.touch_index.proofs.Covered.{covers-none, is_one_of, touched-covered}
 use Rattle.change_undo.specs.Histories.{same_site}
 use Rattle.change_undo.specs.Indexed.{IsIndexOf, has_key}
 use Rattle.change_undo.specs.Kept.{first_touched, kept_touch, plan_of}
@@ -23,10 +23,10 @@ or_none : (a b : Bool) → (a || b) ≡ false → (a ≡ false) × (b ≡ false)
 or_none true b e = cc e
 or_none false b e = (refl, e)
 
-none-touched : (later : Touched) (changes : List CellChange) → list_any (λ change. meet (covering change.cell) (touched_keys later)) changes ≡ false → find (is_touched later) (cells_of changes) ≡ None
+none-touched : (later : Touched) (changes : List CellChange) → list_any (λ change. covers (is_one_of (touched_keys later)) change.cell) changes ≡ false → find (is_touched later) (cells_of changes) ≡ None
 none-touched later [] none = refl
 none-touched later (change ∷ changes) none =
-    let both = or_none (meet (covering change.cell) (touched_keys later)) (list_any (λ change. meet (covering change.cell) (touched_keys later)) changes) none in
+    let both = or_none (covers (is_one_of (touched_keys later)) change.cell) (list_any (λ change. covers (is_one_of (touched_keys later)) change.cell) changes) none in
     elim (is_touched later change.cell) as (λ b. is_touched later change.cell ≡ b → cond b (Some change.cell) (find (is_touched later) (cells_of changes)) ≡ None) [
       | true ↦ λ e. cc (sym (touched-covered later change.cell e) ∙ both.0)
       | false ↦ λ e. none-touched later changes both.1
@@ -40,7 +40,7 @@ untouched index logged plan i indexed none = one (plan_of logged i) (λ key. ind
     one : (its : Option Plan) → ((key : ℕ) → is_posted index key i ≡ has_key its key) → first_touched plan its ≡ None
     one None same = refl
     one (Some later) same =
-        let told = sym (λ j. list_any (λ (change : CellChange). list_any (λ key. same key j) (covering change.cell)) plan.changes.items) ∙ none in
+        let told = sym (λ j. list_any (λ (change : CellChange). covers (λ key. same key j) change.cell) plan.changes.items) ∙ none in
         let no = none-touched later.touched plan.changes.items told in
         elim (same_site later.touched.site plan.touched.site) as (λ b. cond b (find (is_touched later.touched) (cells_of plan.changes.items)) None ≡ None) [ true ↦ no | false ↦ refl ]
 
@@ -53,8 +53,8 @@ pub within : (index : Postings) (logged : List PlannedEntry) (changes : List Cel
 within index logged changes i indexed posted = elim (cases_lt (length logged) i) [
   | inl beyond ↦
       let none : (key : ℕ) → is_posted index key i ≡ false = λ key. indexed key i ∙ ap (λ o. has_key o key) (plan_of-beyond logged i beyond) in
-      let empty : (change : CellChange) → list_any (λ key. is_posted index key i) (covering change.cell) ≡ false =
-      λ change. (λ j. list_any (λ key. none key j) (covering change.cell)) ∙ none_any (covering change.cell) in
+      let empty : (change : CellChange) → covers (λ key. is_posted index key i) change.cell ≡ false =
+      λ change. (λ j. covers (λ key. none key j) change.cell) ∙ covers-none change.cell in
       cc (sym posted ∙ (λ j. list_any (λ (change : CellChange). empty change j) changes) ∙ none_any changes)
   | inr no_more ↦ no_more
 ]

@@ -52,6 +52,13 @@ impl Bodies {
         }
     }
 
+    /// The number of the first one's connection, if one is the first.
+    pub fn first(&self) -> Option<u64>
+        ensures { result ≡ self.now.first }
+    {
+        self.first
+    }
+
     /// How many bodies may take a step now, at least one.
     pub fn steps(&self) -> u64
         ensures { 1 ≤ result }

@@ -86,10 +86,10 @@ unfolding before_memory
 takes_memory [] fits h = absurd (cc h)
 takes_memory (kind ∷ bytes) fits h =
     let rest_fits = IsBytes-rest kind bytes fits in
-    by_test (eqb kind 1) (after_flags bytes) (cond (eqb kind 6) (after_path bytes) (cond (eqb kind 7) (after_path bytes) None)) h
+    let paths : (k : ℕ) → (k ≡ 6) ⊎ ((k ≡ 7) ⊎ (k ≡ 10)) → eqb kind k ≡ true → IsSome (after_path bytes) → TakesMemory (kind ∷ bytes) =
+    λ k one e some. let a = path_begins bytes rest_fits some in (a.0, a.1, a.2, inr (k, one, with_kind kind k bytes (name_text a.0 ++ a.1) e a.3, a.4)) in
+    by_test (eqb kind 1) (after_flags bytes) _ h
     (λ k some. let a = flags_begin bytes rest_fits some in (a.0, a.1, a.2, inl (with_kind kind 1 bytes (name_text a.0 ++ a.1) k a.3, a.4)))
-    (λ on. by_test (eqb kind 6) (after_path bytes) (cond (eqb kind 7) (after_path bytes) None) on
-    (λ k some. let a = path_begins bytes rest_fits some in (a.0, a.1, a.2, inr (inl (with_kind kind 6 bytes (name_text a.0 ++ a.1) k a.3), a.4)))
-    (λ further. by_test (eqb kind 7) (after_path bytes) None further
-    (λ k some. let a = path_begins bytes rest_fits some in (a.0, a.1, a.2, inr (inr (with_kind kind 7 bytes (name_text a.0 ++ a.1) k a.3), a.4)))
-    (λ last. absurd (cc last))))
+    (λ on. by_test (eqb kind 6) (after_path bytes) _ on (paths 6 (inl refl))
+    (λ further. by_test (eqb kind 7) (after_path bytes) _ further (paths 7 (inr (inl refl)))
+    (λ last. by_test (eqb kind 10) (after_path bytes) None last (paths 10 (inr (inr refl))) (λ none. absurd (cc none)))))

@@ -1,5 +1,5 @@
 -- An entry that is read is the one that was written, and what was written is read again.
-use Rattle.std.proofs.Common.{◌≡◌, ◌⊎◌, ℕ, ◌≤◌, zero, suc, Bool, true, false, cond, eqb, List, [], ◌∷◌, ◌++◌, length, Option, Some, Result, Ok, Err, refl, sym, ap, subst, ◌∙◌, inl, inr, arith}
+use Rattle.std.proofs.Common.{◌≡◌, ◌≢◌, ◌⊎◌, ℕ, ◌≤◌, zero, suc, Bool, true, false, cond, eqb, List, [], ◌∷◌, ◌++◌, length, Option, Some, Result, Ok, Err, refl, sym, ap, subst, ◌∙◌, inl, inr, arith}
 use Rattle.std.specs.Int.{w32, to_be_bytes}
 use Rattle.std.specs.List.{flat_map}
 use Rattle.std.specs.Result.{IfOk, IsErrOf, MatchResult}
@@ -8,13 +8,15 @@ use Rattle.std.proofs.lemmas.Option.{none-some, cond_some}
 use Rattle.host_names.specs.declared.digests.Digest.{Digest}
 use Rattle.host_names.specs.declared.names.SiteName.{SiteName}
 use Rattle.site_state.specs.Listings.{Listed, is_lawful}
-use Rattle.site_change.specs.declared.commands.Command.TheVariants.{Open, Publish, Cancel, Remove, Rename, MoveAlias, RemoveAlias, Restore, RemoveDeploy}
+use Rattle.site_change.specs.declared.commands.Command.TheVariants.{Open, Publish, Cancel, Remove, Rename, RenameFolder, MoveAlias, RemoveAlias, Restore, RemoveDeploy}
 use Rattle.site_change.specs.declared.entries.Entry.{Entry}
 use Rattle.site_change.specs.declared.entries.Entry.TheVariants.{Change, Undo}
 use Rattle.entry_texts.specs.declared.decode_faults.DecodeFault.{DecodeFault}
 use Rattle.entry_texts.specs.declared.decode_faults.DecodeFault.TheVariants as faults
-use Rattle.entry_texts.specs.Spells.{name_text, number_text, path_text, listed_text, flags, listing_text, entry_text, IsInRange, IsName, IsNumber, IsListing, IsWritable, Spells}
-use Rattle.entry_texts.specs.Reading.{◌>>=◌, Gives, site_at, alias_at, path_at, flags_at, count_at, whole_number, whole_alias, whole_path, whole_files, moved, unaliased, renamed, removed, listing_of, listing_at, opened, of_kind, numbered_entry, plain_entry, entry_of}
+use Rattle.entry_texts.specs.Spells.{name_text, number_text, path_text, listed_text, flags, listing_text, entry_text, IsInRange, IsName, IsNumber, IsPath, IsListing, IsWritable, Spells}
+use Rattle.entry_texts.specs.Versions.{IsOfVersion}
+use Rattle.entry_texts.specs.declared.versions.Version.TheVariants.{First}
+use Rattle.entry_texts.specs.Reading.{◌>>=◌, Gives, site_at, alias_at, path_at, flags_at, count_at, whole_number, whole_alias, whole_path, whole_files, moved, unaliased, paths_at, renamed, folder_renamed, removed, listing_of, listing_at, opened, of_kind, numbered_entry, plain_entry, entry_of}
 use Rattle.entry_texts.proofs.Taking.{IsBytes, IsBytes-rest, bind_some, some_is, Takes}
 use Rattle.entry_texts.proofs.NameTexts.{site_takes, site_again, alias_takes, alias_again, path_takes, path_again}
 use Rattle.entry_texts.proofs.Listed.{flags_take, flags_again, count_takes, count_again}
@@ -78,18 +80,36 @@ unaliased_is bytes entry fits e =
     let text : 5 ∷ (name_text a.0.0.0 ++ name_text b.0.0) ≡ 5 ∷ bytes = ap (λ (x : List ℕ). 5 ∷ x) (with_site bytes (name_text b.0.0) a.0.1 a.0.0.0 s.0 t.0) in
     subst (After 5 bytes) (some_is (Change (RemoveAlias a.0.0 b.0)) entry b.2) ((s.1, t.1), text)
 
-renamed_is : (bytes : List ℕ) (entry : Entry) → IsBytes bytes → renamed bytes ≡ Some entry → After 6 bytes entry
-unfolding renamed
-renamed_is bytes entry fits e =
-    let a = bind_some (site_at bytes) (λ s. path_at s.1 >>= λ p. whole_path p.1 >>= λ q. Some (Change (Rename s.0 p.0 q))) entry e in
-    let b = bind_some (path_at a.0.1) (λ p. whole_path p.1 >>= λ q. Some (Change (Rename a.0.0 p.0 q))) entry a.2 in
-    let d = bind_some (whole_path b.0.1) (λ q. Some (Change (Rename a.0.0 b.0.0 q))) entry b.2 in
+-- the bytes are those of a site and two paths
+abbrev ArePaths : List ℕ → SiteName × (List ℕ × List ℕ) → Type 0
+ArePaths bytes r = (IsName r.0.0 × (IsPath r.1.0 × IsPath r.1.1)) × (name_text r.0.0 ++ (path_text r.1.0 ++ path_text r.1.1) ≡ bytes)
+
+paths_are : (bytes : List ℕ) (r : SiteName × (List ℕ × List ℕ)) → IsBytes bytes → paths_at bytes ≡ Some r → ArePaths bytes r
+unfolding paths_at
+paths_are bytes r fits e =
+    let a = bind_some (site_at bytes) (λ s. path_at s.1 >>= λ p. whole_path p.1 >>= λ q. Some (s.0, (p.0, q))) r e in
+    let b = bind_some (path_at a.0.1) (λ p. whole_path p.1 >>= λ q. Some (a.0.0, (p.0, q))) r a.2 in
+    let d = bind_some (whole_path b.0.1) (λ q. Some (a.0.0, (b.0.0, q))) r b.2 in
     let s = site_takes bytes a.0.0 a.0.1 fits a.1 in
     let t = path_takes a.0.1 b.0.0 b.0.1 s.0.rest_fits b.1 in
     let q = path_whole b.0.1 d.0 t.0.rest_fits d.1 in
-    let rest : a.0.1 ≡ path_text b.0.0 ++ path_text d.0 = t.0.parts ∙ ap (λ (r : List ℕ). path_text b.0.0 ++ r) q.0 in
-    let text : 6 ∷ (name_text a.0.0.0 ++ (path_text b.0.0 ++ path_text d.0)) ≡ 6 ∷ bytes = ap (λ (x : List ℕ). 6 ∷ x) (with_site bytes (path_text b.0.0 ++ path_text d.0) a.0.1 a.0.0.0 s.0 rest) in
-    subst (After 6 bytes) (some_is (Change (Rename a.0.0 b.0.0 d.0)) entry d.2) ((s.1, (t.1, q.1)), text)
+    let rest : a.0.1 ≡ path_text b.0.0 ++ path_text d.0 = t.0.parts ∙ ap (λ (x : List ℕ). path_text b.0.0 ++ x) q.0 in
+    subst (ArePaths bytes) (some_is (a.0.0, (b.0.0, d.0)) r d.2)
+    ((s.1, (t.1, q.1)), with_site bytes (path_text b.0.0 ++ path_text d.0) a.0.1 a.0.0.0 s.0 rest)
+
+renamed_is : (bytes : List ℕ) (entry : Entry) → IsBytes bytes → renamed bytes ≡ Some entry → After 6 bytes entry
+unfolding renamed
+renamed_is bytes entry fits e =
+    let a = bind_some (paths_at bytes) (λ r. Some (Change (Rename r.0 r.1.0 r.1.1))) entry e in
+    let are = paths_are bytes a.0 fits a.1 in
+    subst (After 6 bytes) (some_is (Change (Rename a.0.0 a.0.1.0 a.0.1.1)) entry a.2) (are.0, ap (λ (x : List ℕ). 6 ∷ x) are.1)
+
+folder_renamed_is : (bytes : List ℕ) (entry : Entry) → IsBytes bytes → folder_renamed bytes ≡ Some entry → After 10 bytes entry
+unfolding folder_renamed
+folder_renamed_is bytes entry fits e =
+    let a = bind_some (paths_at bytes) (λ r. Some (Change (RenameFolder r.0 r.1.0 r.1.1))) entry e in
+    let are = paths_are bytes a.0 fits a.1 in
+    subst (After 10 bytes) (some_is (Change (RenameFolder a.0.0 a.0.1.0 a.0.1.1)) entry a.2) (are.0, ap (λ (x : List ℕ). 10 ∷ x) are.1)
 
 removed_is : (bytes : List ℕ) (entry : Entry) → IsBytes bytes → removed bytes ≡ Some entry → After 7 bytes entry
 unfolding removed
@@ -158,13 +178,18 @@ plain_is kind bytes entry fits e =
 entry_is : (kind : ℕ) (bytes : List ℕ) (entry : Entry) → IsBytes bytes → entry_of (kind ∷ bytes) ≡ Some entry → After kind bytes entry
 unfolding entry_of
 entry_is kind bytes entry fits e =
-    elim (chosen (eqb kind 1) (opened bytes) (cond (eqb kind 6) (renamed bytes) (cond (eqb kind 7) (removed bytes) (plain_entry kind bytes))) (Some entry) e) [
+    let after_last = cond (eqb kind 10) (folder_renamed bytes) (plain_entry kind bytes) in
+    let after_third = cond (eqb kind 7) (removed bytes) after_last in
+    elim (chosen (eqb kind 1) (opened bytes) (cond (eqb kind 6) (renamed bytes) after_third) (Some entry) e) [
       | inl here ↦ of_its_kind kind 1 bytes entry here.0 (opened_is bytes entry fits here.1)
-      | inr on ↦ elim (chosen (eqb kind 6) (renamed bytes) (cond (eqb kind 7) (removed bytes) (plain_entry kind bytes)) (Some entry) on) [
+      | inr on ↦ elim (chosen (eqb kind 6) (renamed bytes) after_third (Some entry) on) [
         | inl here ↦ of_its_kind kind 6 bytes entry here.0 (renamed_is bytes entry fits here.1)
-        | inr further ↦ elim (chosen (eqb kind 7) (removed bytes) (plain_entry kind bytes) (Some entry) further) [
+        | inr further ↦ elim (chosen (eqb kind 7) (removed bytes) after_last (Some entry) further) [
           | inl here ↦ of_its_kind kind 7 bytes entry here.0 (removed_is bytes entry fits here.1)
-          | inr last ↦ plain_is kind bytes entry fits last
+          | inr last ↦ elim (chosen (eqb kind 10) (folder_renamed bytes) (plain_entry kind bytes) (Some entry) last) [
+            | inl here ↦ of_its_kind kind 10 bytes entry here.0 (folder_renamed_is bytes entry fits here.1)
+            | inr plain ↦ plain_is kind bytes entry fits plain
+          ]
         ]
       ]
     ]
@@ -192,7 +217,7 @@ listing_again files auto lawful =
     rw (flags_again files.0 auto (to_be_bytes w32 (length files.1) ++ flat_map listed_text files.1), count_again (length files.1) (flat_map listed_text files.1) lawful.few, files_whole_again files.1 lawful.listed lawful.rising, lawful.lawful) refl
 
 pub entry_again : (entry : Entry) → IsWritable entry → entry_of (entry_text entry) ≡ Some entry
-unfolding entry_of plain_entry opened renamed removed moved unaliased of_kind
+unfolding entry_of plain_entry opened paths_at renamed folder_renamed removed moved unaliased of_kind
 entry_again (Undo site k) h = numbered_again 0 site k (Undo site k) h.0 h.1 refl
 entry_again (Change (Publish site n)) h = numbered_again 2 site n (Change (Publish site n)) h.0 h.1 refl
 entry_again (Change (Cancel site n)) h = numbered_again 3 site n (Change (Cancel site n)) h.0 h.1 refl
@@ -202,6 +227,7 @@ entry_again (Change (Open site files auto)) h = rw (site_again site (listing_tex
 entry_again (Change (MoveAlias site alias n)) h = rw (site_again site (name_text alias.0 ++ number_text n) h.0, alias_again alias (number_text n) h.1.0, number_whole_again n h.1.1) refl
 entry_again (Change (RemoveAlias site alias)) h = rw (site_again site (name_text alias.0) h.0, alias_whole_again alias h.1) refl
 entry_again (Change (Rename site source target)) h = rw (site_again site (path_text source ++ path_text target) h.0, path_again source (path_text target) h.1.0, path_whole_again target h.1.1) refl
+entry_again (Change (RenameFolder site source target)) h = rw (site_again site (path_text source ++ path_text target) h.0, path_again source (path_text target) h.1.0, path_whole_again target h.1.1) refl
 entry_again (Change (Remove site path)) h = rw (site_again site (path_text path) h.0, path_whole_again path h.1) refl
 
 pub spelled_again : (bytes : List ℕ) (entry : Entry) → Spells bytes entry → entry_of bytes ≡ Some entry
@@ -225,6 +251,8 @@ entry_length (Change (MoveAlias site alias n)) h =
 entry_length (Change (RemoveAlias site alias)) h = omega (arith, two_lengths (name_text site.0) (name_text alias.0) 64 64 (name_length site.0 h.0) (name_length alias.0 h.1))
 entry_length (Change (Rename site source target)) h =
     omega (arith, two_lengths (name_text site.0) (path_text source ++ path_text target) 64 2052 (name_length site.0 h.0) (two_lengths (path_text source) (path_text target) 1026 1026 (path_length source h.1.0) (path_length target h.1.1)))
+entry_length (Change (RenameFolder site source target)) h =
+    omega (arith, two_lengths (name_text site.0) (path_text source ++ path_text target) 64 2052 (name_length site.0 h.0) (two_lengths (path_text source) (path_text target) 1026 1026 (path_length source h.1.0) (path_length target h.1.1)))
 entry_length (Change (Remove site path)) h = omega (arith, two_lengths (name_text site.0) (path_text path) 64 1026 (name_length site.0 h.0) (path_length path h.1))
 
 pub spelling_length : (entry : Entry) (bytes : List ℕ) → Spells bytes entry → length bytes ≤ 10470070
@@ -239,9 +267,38 @@ in_range (Change (Cancel site n)) writable = writable.1
 in_range (Change (MoveAlias site alias n)) writable = writable.1.1
 in_range (Change (RemoveAlias site alias)) writable = tt
 in_range (Change (Rename site source target)) writable = tt
+in_range (Change (RenameFolder site source target)) writable = tt
 in_range (Change (Remove site path)) writable = tt
 in_range (Change (Restore site n)) writable = writable.1
 in_range (Change (RemoveDeploy site n)) writable = writable.1
+
+-- ---- which of them the first version has: those whose text doesn't begin with 10
+
+pub not-first : (rest : List ℕ) (entry : Entry) → 10 ∷ rest ≡ entry_text entry → IsOfVersion First entry → ⊥
+not-first rest (Undo site k) e is = cc e
+not-first rest (Change (Open site files auto)) e is = cc e
+not-first rest (Change (Publish site n)) e is = cc e
+not-first rest (Change (Cancel site n)) e is = cc e
+not-first rest (Change (MoveAlias site alias n)) e is = cc e
+not-first rest (Change (RemoveAlias site alias)) e is = cc e
+not-first rest (Change (Rename site source target)) e is = cc e
+not-first rest (Change (RenameFolder site source target)) e is = is
+not-first rest (Change (Remove site path)) e is = cc e
+not-first rest (Change (Restore site n)) e is = cc e
+not-first rest (Change (RemoveDeploy site n)) e is = cc e
+
+pub is-first : (bytes : List ℕ) (entry : Entry) → ((rest : List ℕ) → bytes ≢ 10 ∷ rest) → bytes ≡ entry_text entry → IsOfVersion First entry
+is-first bytes (Undo site k) other e = tt
+is-first bytes (Change (Open site files auto)) other e = tt
+is-first bytes (Change (Publish site n)) other e = tt
+is-first bytes (Change (Cancel site n)) other e = tt
+is-first bytes (Change (MoveAlias site alias n)) other e = tt
+is-first bytes (Change (RemoveAlias site alias)) other e = tt
+is-first bytes (Change (Rename site source target)) other e = tt
+is-first bytes (Change (RenameFolder site source target)) other e = other _ e
+is-first bytes (Change (Remove site path)) other e = tt
+is-first bytes (Change (Restore site n)) other e = tt
+is-first bytes (Change (RemoveDeploy site n)) other e = tt
 
 -- ---- what a reader answers
 

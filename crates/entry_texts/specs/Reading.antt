@@ -11,7 +11,7 @@ use Rattle.host_names.specs.declared.names.SiteName.{SiteName}
 use Rattle.host_names.specs.declared.names.AliasName.{AliasName}
 use Rattle.site_state.specs.Files.{Paths}
 use Rattle.site_state.specs.Listings.{Listed, is_lawful}
-use Rattle.site_change.specs.declared.commands.Command.TheVariants.{Open, Publish, Cancel, Remove, Rename, MoveAlias, RemoveAlias, Restore, RemoveDeploy}
+use Rattle.site_change.specs.declared.commands.Command.TheVariants.{Open, Publish, Cancel, Remove, Rename, RenameFolder, MoveAlias, RemoveAlias, Restore, RemoveDeploy}
 use Rattle.site_change.specs.declared.entries.Entry.{Entry}
 use Rattle.site_change.specs.declared.entries.Entry.TheVariants.{Change, Undo}
 use Rattle.entry_texts.specs.declared.decode_faults.DecodeFault.{DecodeFault}
@@ -169,12 +169,23 @@ unaliased bytes = do
   a ← whole_alias s.1
   Some (Change (RemoveAlias s.0 a))
 
-unfoldable pub renamed : List ℕ → Option Entry
-renamed bytes = do
+-- the site and the two paths of a renaming
+unfoldable pub paths_at : List ℕ → Option (SiteName × (List ℕ × List ℕ))
+paths_at bytes = do
   s ← site_at bytes
   p ← path_at s.1
   q ← whole_path p.1
-  Some (Change (Rename s.0 p.0 q))
+  Some (s.0, (p.0, q))
+
+unfoldable pub renamed : List ℕ → Option Entry
+renamed bytes = do
+  r ← paths_at bytes
+  Some (Change (Rename r.0 r.1.0 r.1.1))
+
+unfoldable pub folder_renamed : List ℕ → Option Entry
+folder_renamed bytes = do
+  r ← paths_at bytes
+  Some (Change (RenameFolder r.0 r.1.0 r.1.1))
 
 unfoldable pub removed : List ℕ → Option Entry
 removed bytes = do
@@ -227,7 +238,12 @@ plain_entry kind bytes = if kind == 4 then moved bytes else if kind == 5 then un
 -- all of the bytes
 unfoldable pub entry_of : List ℕ → Option Entry
 entry_of [] = None
-entry_of (kind ∷ bytes) = if kind == 1 then opened bytes else if kind == 6 then renamed bytes else if kind == 7 then removed bytes else plain_entry kind bytes
+entry_of (kind ∷ bytes) =
+    if kind == 1 then opened bytes
+    else if kind == 6 then renamed bytes
+    else if kind == 7 then removed bytes
+    else if kind == 10 then folder_renamed bytes
+    else plain_entry kind bytes
 
 -- ---- what is read before memory is taken
 
@@ -254,4 +270,9 @@ after_flags bytes = do
 -- what follows that in an entry with paths
 unfoldable pub before_memory : List ℕ → Option (List ℕ)
 before_memory [] = None
-before_memory (kind ∷ bytes) = if kind == 1 then after_flags bytes else if kind == 6 then after_path bytes else if kind == 7 then after_path bytes else None
+before_memory (kind ∷ bytes) =
+    if kind == 1 then after_flags bytes
+    else if kind == 6 then after_path bytes
+    else if kind == 7 then after_path bytes
+    else if kind == 10 then after_path bytes
+    else None

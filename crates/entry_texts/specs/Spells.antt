@@ -10,7 +10,7 @@ use Rattle.site_state.specs.Files.{IsByPath}
 use Rattle.site_state.specs.Listings.{Listed, is_lawful}
 pub use Rattle.site_change.specs.Changes.{IsCommandInRange, IsNumber}
 use Rattle.site_change.specs.declared.commands.Command.{Command}
-use Rattle.site_change.specs.declared.commands.Command.TheVariants.{Open, Publish, Cancel, Remove, Rename, MoveAlias, RemoveAlias, Restore, RemoveDeploy}
+use Rattle.site_change.specs.declared.commands.Command.TheVariants.{Open, Publish, Cancel, Remove, Rename, RenameFolder, MoveAlias, RemoveAlias, Restore, RemoveDeploy}
 use Rattle.site_change.specs.declared.entries.Entry.{Entry}
 use Rattle.site_change.specs.declared.entries.Entry.TheVariants.{Change, Undo}
 
@@ -58,6 +58,7 @@ command_text (Rename site source target) = 6 ∷ (name_text site.0 ++ (path_text
 command_text (Remove site path) = 7 ∷ (name_text site.0 ++ path_text path)
 command_text (Restore site n) = 8 ∷ (name_text site.0 ++ number_text n)
 command_text (RemoveDeploy site n) = 9 ∷ (name_text site.0 ++ number_text n)
+command_text (RenameFolder site source target) = 10 ∷ (name_text site.0 ++ (path_text source ++ path_text target))
 
 abbrev pub entry_text : Entry → List ℕ
 entry_text (Undo site k) = 0 ∷ (name_text site.0 ++ number_text k)
@@ -92,6 +93,7 @@ IsCommand (Cancel site n) = IsName site.0 × IsNumber n
 IsCommand (MoveAlias site alias n) = IsName site.0 × (IsName alias.0 × IsNumber n)
 IsCommand (RemoveAlias site alias) = IsName site.0 × IsName alias.0
 IsCommand (Rename site source target) = IsName site.0 × (IsPath source × IsPath target)
+IsCommand (RenameFolder site source target) = IsName site.0 × (IsPath source × IsPath target)
 IsCommand (Remove site path) = IsName site.0 × IsPath path
 IsCommand (Restore site n) = IsName site.0 × IsNumber n
 IsCommand (RemoveDeploy site n) = IsName site.0 × IsNumber n
@@ -123,7 +125,8 @@ abbrev pub BeginsWithListing : List ℕ → Type 0
 BeginsWithListing bytes = (patch auto : Bool) × (n : ℕ) × (rest : List ℕ) × (bytes ≡ flags patch auto ∷ (to_be_bytes w32 n ++ rest)) × (n ≤ 10000)
     × (((1 ≤ n) × BeginsWithPath rest) ⊎ ((n ≡ 0) × (rest ≡ [])))
 
--- the bytes are those of an opening, a renaming or a removal of a file up to its first path, with any bytes after that, or of an opening without paths
+-- The bytes are those of an opening, a renaming of a file or of a folder, or a removal of a file, up to its first path, with any bytes after that,
+-- or of an opening without paths.
 abbrev pub TakesMemory : List ℕ → Type 0
 TakesMemory bytes = (site rest : List ℕ) × IsName site × (((bytes ≡ 1 ∷ (name_text site ++ rest)) × BeginsWithListing rest)
-    ⊎ (((bytes ≡ 6 ∷ (name_text site ++ rest)) ⊎ (bytes ≡ 7 ∷ (name_text site ++ rest))) × BeginsWithPath rest))
+    ⊎ ((kind : ℕ) × ((kind ≡ 6) ⊎ ((kind ≡ 7) ⊎ (kind ≡ 10))) × (bytes ≡ kind ∷ (name_text site ++ rest)) × BeginsWithPath rest))

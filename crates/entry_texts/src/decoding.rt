@@ -1,16 +1,19 @@
 //! Entries, read from their texts.
-ghost use Rattle.std.specs.Prelude.{◌≡◌, IfOk, IfErr, IsErrOf, IsSome, MatchResult};
+ghost use Rattle.std.specs.Prelude.{◌≡◌, ◌∷◌, ℕ, List, IfOk, IfErr, IsErrOf, IsSome, MatchResult};
 ghost use Rattle.site_state.specs.Files.{IsByPath};
 ghost use Rattle.site_change.specs.declared.entries.Entry as entries;
 ghost use Rattle.entry_texts.specs.Reading;
 ghost use Rattle.entry_texts.specs.Reading.{Finds, Gives};
 ghost use Rattle.entry_texts.specs.Spells.{Spells, TakesMemory};
+ghost use Rattle.entry_texts.specs.Versions.{SpellsIn};
+ghost use Rattle.entry_texts.specs.declared.versions.Version.TheVariants.{First};
 
 use crate::decode_faults::DecodeFault;
 use crate::fields::{
     alias_at, count_at, flags_at, path_at, site_at, whole_alias, whole_number, whole_path,
 };
 use crate::listings::whole_files;
+use crate::versions::Version;
 use host_names::{Digest, FilePath, SiteName};
 use site_change::{Command, Entry};
 use site_state::{Listing, PathMap};
@@ -74,9 +77,10 @@ fn plain_entry(kind: u8, bytes: &[u8]) -> Option<Entry>
     }
 }
 
-#[tactic(auto, unfolding(crate::specs::Reading::renamed, crate::specs::Reading::after_path))]
-fn renaming(alloc: Global, bytes: &[u8]) -> Result<Entry, DecodeFault>
-    ensures value { Gives (λ entry. entry) result (Reading.renamed bytes.now) }
+/// The site and the two paths of a renaming.
+#[tactic(auto, unfolding(crate::specs::Reading::paths_at, crate::specs::Reading::after_path))]
+fn paths_at(alloc: Global, bytes: &[u8]) -> Result<(SiteName, (FilePath, FilePath)), DecodeFault>
+    ensures value { Gives (λ x. x) result (Reading.paths_at bytes.now) }
     ensures memory { IsErrOf result DecodeFault.OutOfMemory → IsSome (Reading.after_path bytes.now) }
 {
     let Some((site, rest)) = site_at(bytes) else {
@@ -84,6 +88,28 @@ fn renaming(alloc: Global, bytes: &[u8]) -> Result<Entry, DecodeFault>
     };
     let (source, rest) = path_at(alloc, rest)?;
     let target = whole_path(alloc, rest)?;
+    Ok((site, (source, target)))
+}
+
+#[tactic(auto, unfolding(crate::specs::Reading::folder_renamed))]
+fn folder_renaming(alloc: Global, bytes: &[u8]) -> Result<Entry, DecodeFault>
+    ensures value { Gives (λ entry. entry) result (Reading.folder_renamed bytes.now) }
+    ensures memory { IsErrOf result DecodeFault.OutOfMemory → IsSome (Reading.after_path bytes.now) }
+{
+    let (site, (source, target)) = paths_at(alloc, bytes)?;
+    Ok(Entry::Change(Command::RenameFolder {
+        site,
+        source,
+        target,
+    }))
+}
+
+#[tactic(auto, unfolding(crate::specs::Reading::renamed))]
+fn renaming(alloc: Global, bytes: &[u8]) -> Result<Entry, DecodeFault>
+    ensures value { Gives (λ entry. entry) result (Reading.renamed bytes.now) }
+    ensures memory { IsErrOf result DecodeFault.OutOfMemory → IsSome (Reading.after_path bytes.now) }
+{
+    let (site, (source, target)) = paths_at(alloc, bytes)?;
     Ok(Entry::Change(Command::Rename {
         site,
         source,
@@ -167,6 +193,7 @@ fn entry_of(alloc: Global, bytes: &[u8]) -> Result<Entry, DecodeFault>
         [1, rest @ ..] => opening(alloc, rest),
         [6, rest @ ..] => renaming(alloc, rest),
         [7, rest @ ..] => removal(alloc, rest),
+        [10, rest @ ..] => folder_renaming(alloc, rest),
         [kind, rest @ ..] => without_paths(*kind, rest),
     }
 }
@@ -180,4 +207,18 @@ pub fn decode(alloc: Global, bytes: &[u8]) -> Result<Entry, DecodeFault>
     ensures memory { IsErrOf result DecodeFault.OutOfMemory → TakesMemory bytes.now }
 {
     entry_of(alloc, bytes)
+}
+
+/// The entry that these bytes spell in a file of a version, as `decode` reads it. In a file of the first version no folder is renamed.
+pub fn decode_in(alloc: Global, version: Version, bytes: &[u8]) -> Result<Entry, DecodeFault>
+    ensures spelled { IfOk result (λ entry. SpellsIn version bytes.now entry) }
+    ensures found { (entry : entries.Entry) → SpellsIn version bytes.now entry → MatchResult result (λ read. read ≡ entry) (λ fault. fault ≡ DecodeFault.OutOfMemory) }
+    ensures bad { IsErrOf result DecodeFault.BadEntry → (entry : entries.Entry) → SpellsIn version bytes.now entry → ⊥ }
+    ensures memory { IsErrOf result DecodeFault.OutOfMemory → TakesMemory bytes.now }
+    ensures old { version ≡ First → (rest : List ℕ) → bytes.now ≡ 10 ∷ rest → IsErrOf result DecodeFault.BadEntry }
+{
+    match (version, bytes) {
+        (Version::First, [10, ..]) => Err(DecodeFault::BadEntry),
+        _ => decode(alloc, bytes),
+    }
 }

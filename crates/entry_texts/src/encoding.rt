@@ -147,16 +147,18 @@ fn put_removed_alias(out: &mut Vec<u8>, site: &SiteName, name: &AliasName) -> Re
     put_name(out, &name.0)
 }
 
+/// A renaming of this kind, of a file or of a folder.
 fn put_renaming(
     out: &mut Vec<u8>,
+    kind: u8,
     site: &SiteName,
     source: &FilePath,
     target: &FilePath,
 ) -> Result<(), AllocError>
     ensures lawful { OnOk result (IsName site.now.0 × (IsPath source.now × IsPath target.now)) }
-    ensures bytes { OnOk result (out.new.items ≡ out.old.items ++ (6 ∷ (name_text site.now.0 ++ (path_text source.now ++ path_text target.now)))) }
+    ensures bytes { OnOk result (out.new.items ≡ out.old.items ++ (kind ∷ (name_text site.now.0 ++ (path_text source.now ++ path_text target.now)))) }
 {
-    put_start(out, 6, site)?;
+    put_start(out, kind, site)?;
     put_path(out, source)?;
     put_path(out, target)
 }
@@ -184,7 +186,12 @@ fn put_command(out: &mut Vec<u8>, command: &Command) -> Result<(), AllocError>
             site,
             source,
             target,
-        } => put_renaming(out, site, source, target),
+        } => put_renaming(out, 6, site, source, target),
+        Command::RenameFolder {
+            site,
+            source,
+            target,
+        } => put_renaming(out, 10, site, source, target),
         Command::Remove { site, path } => put_removal(out, site, path),
         Command::Restore { site, number } => put_numbered(out, 8, site, *number),
         Command::RemoveDeploy { site, number } => put_numbered(out, 9, site, *number),

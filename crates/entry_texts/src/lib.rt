@@ -6,7 +6,9 @@ mod decoding;
 mod encoding;
 mod fields;
 mod listings;
+mod versions;
 
 pub use decode_faults::DecodeFault;
-pub use decoding::decode;
+pub use decoding::{decode, decode_in};
 pub use encoding::encode;
+pub use versions::Version;

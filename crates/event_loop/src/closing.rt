@@ -1,12 +1,10 @@
 //! A connection that is over, while its client still sends.
 ghost use Rattle.std.specs.Prelude.{◌≤◌};
 
-use crate::holdings::Holding;
-use crate::ready_sets::Interest;
-use crate::steps::{Next, Step};
 use connection_rules::Stage;
-use std::io::{Error, ErrorKind, Read};
-use std::net::TcpStream;
+use socket_sets::ClientSocket;
+use std::io::{Error, ErrorKind};
+use worker_connections::{Holding, Interest, Next, Step};
 
 /// How many bytes a read takes at most.
 const PIECE: usize = 8_192;
@@ -20,14 +18,13 @@ fn may_read_again(error: &Error) -> bool {
 }
 
 /// Reads what is there and drops it: how many bytes it was, and whether more may come.
-fn drop_input(stream: &TcpStream) -> (u64, bool)
+fn drop_input<K: ClientSocket>(socket: &K) -> (u64, bool)
     ensures few { result.0 ≤ 262144 }
 {
-    let mut stream = stream;
     let mut piece = [0; PIECE];
     let mut dropped = 0;
     'reads: for _ in 0..READS {
-        match stream.read(&mut piece) {
+        match socket.read_some(&mut piece) {
             Ok(0) => return (dropped, false),
             Ok(count) => dropped += count as u64,
             Err(error) => return (dropped, may_read_again(&error)),
@@ -37,8 +34,8 @@ fn drop_input(stream: &TcpStream) -> (u64, bool)
 }
 
 /// Goes on with a connection that closes, until its client has closed it too.
-pub(crate) fn close_on(stream: &TcpStream) -> Step {
-    let (read, may_come) = drop_input(stream);
+pub(crate) fn close_on<K: ClientSocket>(socket: &K) -> Step {
+    let (read, may_come) = drop_input(socket);
     Step {
         next: if may_come {
             Next::Waits(Interest::Read)

@@ -2,17 +2,15 @@
 use std::alloc::{AllocError, Global};
 use std::collections::VecDeque;
 use std::sync::{Condvar, Mutex, Wait};
+use worker_connections::Name;
 
-/// A connection that goes on in another thread, since its next step may wait: for a disk, for another node, or for a body to be parsed. Its socket stays in
-/// its place.
+/// A connection that goes on in another thread, since its next step may wait: for a disk, for another node, or for a body to be parsed. Its socket stays with
+/// its worker.
 #[derive(Drop)]
 pub struct Errand<C> {
-    /// The place of the connection, which another one may have by now.
-    pub(crate) at: usize,
-    /// The connection's number, which no other one has.
-    pub(crate) number: u64,
-    /// How many bytes of a body count for it.
-    pub(crate) held: u64,
+    /// Which worker handed it over, and the connection's name there.
+    pub(crate) line: usize,
+    pub(crate) name: Name,
     /// The connection.
     pub connection: C,
 }

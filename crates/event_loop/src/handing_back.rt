@@ -1,28 +1,33 @@
 //! What a thread for errands does.
 ghost use Rattle.std.specs.Prelude.{◌≡◌, None, true};
 
-use crate::clients::{Client, Whereabouts};
 use crate::errands::Errand;
-use crate::holdings::Holding;
-use crate::nodes::{Node, milliseconds};
-use crate::steps::{SlowSteps, Step};
+use crate::lines::Message;
+use crate::nodes::Node;
+use crate::steps::SlowSteps;
 use crate::workers::{Takes, Turns};
+use socket_sets::Waits;
 use std::alloc::Global;
 use std::sync::Wait;
-use std::time::Clock;
+use std::thread;
+use std::time::{Clock, Duration};
+use worker_connections::Step;
+
+/// How many milliseconds pass before a connection is given back again if there was no memory for that.
+const PAUSE: u64 = 10;
 
 /// The errands that a thread takes.
 #[derive(Drop)]
-pub struct ErrandTurns<'a, R, C: Drop> {
+pub struct ErrandTurns<'a, R, C: Drop, K: Drop, L: Drop, P: Drop> {
     rt: &'a R,
-    node: &'a Node<C>,
+    node: &'a Node<C, K, L, P>,
     taken: u64,
     is_over: bool,
 }
 
-impl<'a, R, C: Drop> ErrandTurns<'a, R, C> {
+impl<'a, R, C: Drop, K: Drop, L: Drop, P: Drop> ErrandTurns<'a, R, C, K, L, P> {
     /// The errands of a node, of which this thread has taken none.
-    pub fn new(rt: &'a R, node: &'a Node<C>) -> ErrandTurns<'a, R, C>
+    pub fn new(rt: &'a R, node: &'a Node<C, K, L, P>) -> ErrandTurns<'a, R, C, K, L, P>
         ensures { result.taken ≡ 0 }
     {
         ErrandTurns {
@@ -44,7 +49,7 @@ impl<'a, R, C: Drop> ErrandTurns<'a, R, C> {
     }
 }
 
-impl<R: Wait, C: Drop> Turns for ErrandTurns<'_, R, C> {
+impl<R: Wait, C: Drop, K: Drop, L: Drop, P: Drop> Turns for ErrandTurns<'_, R, C, K, L, P> {
     type Turn = Errand<C>;
 
     ghost taken = { λ turns. turns.taken };
@@ -65,25 +70,31 @@ impl<R: Wait, C: Drop> Turns for ErrandTurns<'_, R, C> {
     }
 }
 
-/// A thread for errands. It makes the step of each connection that it is given, and puts the connection back into its place, or drops it if another one has
-/// that place by then.
+/// A thread for errands. It makes the step of each connection that it is given, and gives the connection back to its worker.
 #[derive(Drop)]
-pub struct ErrandWorker<'a, R, S: SlowSteps + Drop> {
+pub struct ErrandWorker<'a, R, S: SlowSteps + Drop, K: Drop, L: Drop, P: Drop> {
     rt: &'a R,
     alloc: Global,
-    node: &'a Node<S::Connection>,
+    node: &'a Node<S::Connection, K, L, P>,
     steps: S,
     done: u64,
 }
 
-impl<'a, R: Wait + Clock, S: SlowSteps + Drop> ErrandWorker<'a, R, S> {
+impl<'a, R: Wait + Clock, S: SlowSteps + Drop, K: Drop, L: Drop, P: Waits + Drop> ErrandWorker<
+    'a,
+    R,
+    S,
+    K,
+    L,
+    P,
+> {
     /// A thread that has done nothing yet.
     pub fn new(
         rt: &'a R,
         alloc: Global,
-        node: &'a Node<S::Connection>,
+        node: &'a Node<S::Connection, K, L, P>,
         steps: S,
-    ) -> ErrandWorker<'a, R, S>
+    ) -> ErrandWorker<'a, R, S, K, L, P>
         ensures { result.done ≡ 0 }
     {
         ErrandWorker {
@@ -95,61 +106,31 @@ impl<'a, R: Wait + Clock, S: SlowSteps + Drop> ErrandWorker<'a, R, S> {
         }
     }
 
-    /// Puts a connection back whose step came to this, and waits for its client again. What it held no longer counts if it is gone.
-    fn hand_back(&self, errand: Errand<S::Connection>, step: &Step) {
-        let (at, number, held) = (errand.at, errand.number, errand.held);
-        let Some(place) = self.node.places.get(at) else {
+    /// Gives a connection back to its worker, with what its step came to. As long as there is no memory for that, it is tried again.
+    fn hand_back(&self, errand: Errand<S::Connection>, step: Step) {
+        let Some(line) = self.node.lines.get(errand.line) else {
             return;
         };
-        let mut place = place.lock(self.rt);
-        let waits = match &mut place.client {
-            Some(client) if client.number == number => {
-                client.connection = Whereabouts::Here(errand.connection);
-                self.goes_on(at, client, held, step)
+        let mut message = Message::Back(errand, step);
+        for _ in self.rt.forever() {
+            match line.send(self.rt, message) {
+                Ok(()) => return,
+                Err(failed) => message = failed,
             }
-            _ => {
-                drop(place);
-                self.node.bodies.lock(self.rt).leave(number, held);
-                self.node.wake_waiting(self.rt);
-                return;
-            }
-        };
-        if !waits {
-            self.node.end(self.rt, &mut place);
-        }
-        drop(place);
-        if !waits {
-            self.node.release(self.rt, at);
-        }
-        self.node.balance(self.rt, Holding::Body(held), step.holds);
-    }
-
-    /// Waits for the client of a connection that is back. Answers whether it can be waited for.
-    fn goes_on(
-        &self,
-        at: usize,
-        client: &mut Client<S::Connection>,
-        held: u64,
-        step: &Step,
-    ) -> bool {
-        let now = milliseconds(self.rt);
-        client.note(step, now, self.node.span(now));
-        self.node.count_back(self.rt, client, held, step.holds);
-        client.untried_since = Some(now);
-        match client.follow(step.next) {
-            Some(interest) => self.node.wait_again(client, at, interest),
-            None => false,
+            thread::sleep(self.rt, Duration::from_millis(PAUSE));
         }
     }
 }
 
-impl<R: Wait + Clock, S: SlowSteps + Drop> Takes<Errand<S::Connection>> for ErrandWorker<'_, R, S> {
+impl<R: Wait + Clock, S: SlowSteps + Drop, K: Drop, L: Drop, P: Waits + Drop> Takes<
+    Errand<S::Connection>,
+> for ErrandWorker<'_, R, S, K, L, P> {
     ghost done = { λ worker. worker.done };
 
     fn take(&mut self, errand: Errand<S::Connection>) {
         let mut errand = errand;
         let step = self.steps.go_on(self.alloc, &mut errand.connection);
-        self.hand_back(errand, &step);
+        self.hand_back(errand, step);
         self.done += 1;
     }
 }

@@ -1,27 +1,24 @@
-//! What the threads of a node do: they wait together for the connections that are ready, and go on with one at a time.
+//! What the threads of a node do: each worker waits for those of its connections that are ready, and goes on with one at a time.
 #![tactic(auto)]
 
-mod clients;
+mod accepting;
 mod closing;
-mod drains;
 mod errands;
+mod giving;
 mod handing_back;
-mod holdings;
+mod lines;
 mod nodes;
-mod places;
-mod ready_sets;
-mod rooms;
 mod serving;
+mod stepping;
 mod steps;
+mod sweeping;
 mod turns;
 mod workers;
 
 pub use errands::Errand;
 pub use handing_back::{ErrandTurns, ErrandWorker};
-pub use holdings::Holding;
-pub use nodes::{Node, NodePlan};
-pub use ready_sets::{Event, Interest, ReadySet};
+pub use nodes::{Node, NodePlan, TcpNode};
 pub use serving::Worker;
-pub use steps::{Next, NotBegun, SlowSteps, Step, Steps};
-pub use turns::{NodeTurns, Turn};
+pub use steps::{NotBegun, SlowSteps, Steps};
+pub use turns::NodeTurns;
 pub use workers::{Takes, Turns, work};

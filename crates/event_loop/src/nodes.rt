@@ -1,59 +1,47 @@
 //! What the workers of a node share.
-use crate::clients::Client;
 use crate::errands::Errands;
-use crate::ready_sets::{Interest, ReadySet};
-use connection_rules::{Bodies, Limits, Replies};
+use crate::lines::{Ask, Line, Message};
+use connection_rules::Limits;
 use operator_notices::{Kind as About, Notices};
+use socket_sets::{ReadySet, SocketSet, Waits};
 use std::alloc::{AllocError, Global};
-use std::net::TcpListener;
+use std::net::{TcpListener, TcpStream};
 use std::sync::atomic::{AtomicBool, AtomicU64, Ordering};
 use std::sync::{Arc, Mutex, Wait};
-use std::time::Clock;
-
-/// How often to look again if the connection that was chosen became busy.
-pub(crate) const MOST_LOOKS: u32 = 8;
+use std::thread;
+use std::time::{Clock, Duration};
+use worker_connections::{Shares, Want};
 
 /// The time of a drain that was not asked for.
-pub(crate) const NEVER: u64 = u64::MAX;
+const NEVER: u64 = u64::MAX;
 
-/// The number of the listener in the set; the connections have those of their places.
-pub(crate) const LISTENER: u64 = u64::MAX;
+/// How many messages a worker may be told beside one of each place.
+const MORE: usize = 64;
 
-/// The place of a connection, with the connection, if one is there.
+/// How many milliseconds the overseeing thread waits for a connection to be given up, and how often.
+const LOOKS: u32 = 100;
+
+/// What the workers of a node share: its listener, how each is reached, and one struct behind a lock.
 #[derive(Drop)]
-pub(crate) struct Place<C: Drop> {
-    pub client: Option<Client<C>>,
-}
-
-/// What the workers of a node share: its listener, the set of what is ready, and its connections, each in a place behind a lock of its own.
-#[derive(Drop)]
-pub struct Node<C: Drop> {
-    pub(crate) listener: TcpListener,
-    pub(crate) ready: ReadySet,
-    pub(crate) places: Vec<Mutex<Place<C>>>,
-    pub(crate) free: Mutex<Vec<usize>>,
+pub struct Node<C: Drop, K: Drop, L: Drop, P: Drop> {
+    pub(crate) listener: L,
+    pub(crate) lines: Vec<Line<C, K, P>>,
     pub(crate) limits: Limits,
     pub(crate) notices: Arc<Notices>,
-    // The connections that threads for errands are to go on with, and the number of the next connection.
     pub(crate) errands: Errands<C>,
-    next_number: AtomicU64,
-    // What the bodies and the replies of the connections hold, how many bodies wait for room, and when one went to give it.
-    pub(crate) bodies: Mutex<Bodies>,
-    pub(crate) replies: Mutex<Replies>,
-    pub(crate) waiting: AtomicU64,
+    pub(crate) shares: Mutex<Shares>,
+    // How many workers have begun, when a body went last to give room, how many connections the overseeing thread was given and how often it was refused one,
+    // by when the node ends if it drains, and whether it is over.
+    begun: AtomicU64,
     pub(crate) given_room: AtomicU64,
-    // Behind which place bodies that wait are let go on next.
-    pub(crate) woken: AtomicU64,
-    // How many clients are still accepted, how many connections are still to end, and when the connections were looked through last.
-    to_accept: AtomicU64,
-    pub(crate) to_end: AtomicU64,
-    swept: AtomicU64,
-    // How many places have a connection, and by when the node ends if it drains.
-    pub(crate) taken: AtomicU64,
-    pub(crate) drained_by: AtomicU64,
-    // Whether the listener couldn't be armed.
-    is_deaf: AtomicBool,
+    given_up: AtomicU64,
+    refused: AtomicU64,
+    drained_by: AtomicU64,
+    is_over: AtomicBool,
 }
+
+/// A node whose clients come over TCP.
+pub type TcpNode<C> = Node<C, TcpStream, TcpListener, ReadySet>;
 
 /// What a node is made with.
 #[derive(Drop)]
@@ -75,148 +63,191 @@ pub(crate) fn milliseconds<R: Clock>(rt: &R) -> u64 {
     }
 }
 
-impl<C: Drop> Node<C> {
-    /// A node that serves the clients of a listener that doesn't block.
+impl<C: Drop, K: Drop, L: Drop, P: Waits + Drop> Node<C, K, L, P> {
+    /// A node that serves the clients of a listener that doesn't block, with a worker for each of these sets.
     pub fn new(
         alloc: Global,
-        listener: TcpListener,
-        ready: ReadySet,
+        listener: L,
+        sets: Vec<P>,
         plan: NodePlan,
-    ) -> Result<Node<C>, AllocError> {
+    ) -> Result<Node<C, K, L, P>, AllocError> {
         let NodePlan {
-            places: count,
+            places,
             limits,
             clients,
             notices,
         } = plan;
-        let mut places = Vec::new(alloc);
-        let mut free = Vec::new(alloc);
-        for at in 0..count {
-            places.push(Mutex::new(Place { client: None }))?;
-            free.push(count - 1 - at)?;
+        let mut lines = Vec::new(alloc);
+        for set in sets {
+            lines.push(Line::new(alloc, set, places.saturating_add(MORE))?)?;
         }
+        let shares = Shares::new(alloc, lines.len(), places as u64, clients)?;
         Ok(Node {
             listener,
-            ready,
-            places,
-            free: Mutex::new(free),
+            lines,
             limits,
             notices,
-            errands: Errands::new(alloc, count)?,
-            next_number: AtomicU64::new(0),
-            bodies: Mutex::new(Bodies::new()),
-            replies: Mutex::new(Replies::new(alloc)),
-            waiting: AtomicU64::new(0),
+            errands: Errands::new(alloc, places)?,
+            shares: Mutex::new(shares),
+            begun: AtomicU64::new(0),
             given_room: AtomicU64::new(0),
-            woken: AtomicU64::new(0),
-            to_accept: AtomicU64::new(clients),
-            to_end: AtomicU64::new(clients),
-            swept: AtomicU64::new(0),
-            taken: AtomicU64::new(0),
+            given_up: AtomicU64::new(0),
+            refused: AtomicU64::new(0),
             drained_by: AtomicU64::new(NEVER),
-            is_deaf: AtomicBool::new(false),
+            is_over: AtomicBool::new(false),
         })
     }
 
+    /// The number of one more worker, if there is a set for it.
+    pub fn next_worker(&self) -> Option<usize> {
+        let number = self.begun.fetch_add(1, Ordering::SeqCst) as usize;
+        if number < self.lines.len() {
+            Some(number)
+        } else {
+            None
+        }
+    }
+
+    /// Ends the waits of all workers.
+    fn wake_all(&self) {
+        for line in &self.lines {
+            line.set.wake();
+        }
+    }
+
+    /// Tells a worker something. Answers whether there was memory for that.
+    pub(crate) fn send<R: Wait>(&self, rt: &R, worker: usize, message: Message<C, K>) -> bool {
+        match self.lines.get(worker) {
+            Some(line) => line.send(rt, message).is_ok(),
+            None => false,
+        }
+    }
+
+    /// Whether all the clients that it serves have come and gone, or it has drained.
+    pub(crate) fn is_over<R: Wait + Clock>(&self, rt: &R) -> bool {
+        self.is_over.load(Ordering::SeqCst) || self.drains() && self.is_drained(rt)
+    }
+
+    /// Whether it has no connection any more, or no more time.
+    fn is_drained<R: Wait + Clock>(&self, rt: &R) -> bool {
+        let by = self.drained_by.load(Ordering::SeqCst);
+        milliseconds(rt) >= by || self.shares.lock(rt).present() == 0
+    }
+
+    /// Begins to drain: no client is accepted any more, connections between two requests end, and the others have until this time.
+    pub fn drain(&self, by: u64) {
+        self.drained_by.store(by.min(NEVER - 1), Ordering::SeqCst);
+        self.wake_all();
+    }
+
+    /// Whether it drains.
+    pub(crate) fn drains(&self) -> bool {
+        self.drained_by.load(Ordering::SeqCst) != NEVER
+    }
+
+    /// A connection has ended, or a client went that had no place yet.
+    pub(crate) fn count_gone<R: Wait>(&self, rt: &R) {
+        let mut shares = self.shares.lock(rt);
+        shares.leave();
+        let are_gone = shares.are_gone();
+        drop(shares);
+        if are_gone {
+            self.is_over.store(true, Ordering::SeqCst);
+        }
+        if are_gone || self.drains() {
+            self.wake_all();
+        }
+    }
+
+    /// Ends: its workers stop, and so do its threads for errands once none is left.
+    pub fn end_all<R: Wait>(&self, rt: &R) {
+        self.is_over.store(true, Ordering::SeqCst);
+        self.wake_all();
+        self.errands.end(rt);
+    }
+
+    /// The least number of a connection that is to go first, as its worker last said. Of several nodes, the one with the least number gives one up.
+    pub fn first_to_go<R: Wait>(&self, rt: &R) -> Option<u64> {
+        let (_, number) = self.shares.lock(rt).least_said(Want::Place)?;
+        Some(number)
+    }
+
+    /// Asks the worker that said the least number. Answers whether one was asked.
+    pub(crate) fn ask<R: Wait>(
+        &self,
+        rt: &R,
+        want: Want,
+        asker: Option<usize>,
+        tries: u64,
+    ) -> bool {
+        if tries == 0 {
+            return false;
+        }
+        let said = self.shares.lock(rt).least_said(want);
+        match said {
+            Some((worker, most)) => {
+                let ask = Ask {
+                    want,
+                    most,
+                    asker,
+                    tries: tries - 1,
+                };
+                self.send(rt, worker, Message::Asked(ask))
+            }
+            None => false,
+        }
+    }
+
+    /// How many workers may be asked for one connection.
+    pub(crate) fn most_tries(&self) -> u64 {
+        4 * (self.lines.len() as u64).min(64) + 4
+    }
+
+    /// No body could go to give room, so another look may ask again.
+    pub(crate) fn give_no_room(&self) {
+        self.given_room.store(0, Ordering::SeqCst);
+    }
+
+    /// The overseeing thread asked for a connection: one was given, or not.
+    pub(crate) fn count_answer(&self, is_given: bool) {
+        if is_given {
+            self.given_up.fetch_add(1, Ordering::SeqCst);
+        } else {
+            self.refused.fetch_add(1, Ordering::SeqCst);
+        }
+    }
+
+    /// Asks the worker that said the least number to give that connection up, for its descriptor, and waits for a tenth of a second at most. Answers false if it
+    /// was refused: then the worker has none any more that loses as little, and has said its number anew, so that of another node may be the least.
+    pub fn give_up_first<R: Wait + Clock>(&self, rt: &R) -> bool {
+        let given = self.given_up.load(Ordering::SeqCst);
+        let refused = self.refused.load(Ordering::SeqCst);
+        if !self.ask(rt, Want::Place, None, 1) {
+            return false;
+        }
+        for _ in 0..LOOKS {
+            if self.given_up.load(Ordering::SeqCst) != given {
+                break;
+            }
+            if self.refused.load(Ordering::SeqCst) != refused {
+                return false;
+            }
+            thread::sleep(rt, Duration::from_millis(1));
+        }
+        let text = "none is left, so the connection ends that has least to lose";
+        self.notices.tell(About::Descriptors, text, "");
+        true
+    }
+}
+
+impl<C: Drop, K: Drop, L: Drop, P: Waits + SocketSet<K, L> + Drop> Node<C, K, L, P> {
     /// Begins to wait for clients. Answers whether that was done.
     pub fn open(&self) -> bool {
-        self.ready.add(&self.listener, LISTENER, Interest::Read)
-    }
-
-    /// A client was accepted.
-    pub(crate) fn count_accepted(&self) {
-        self.to_accept.fetch_sub(1, Ordering::SeqCst);
-    }
-
-    /// Waits for the next client, if there is to be one. If that can't be done, it is tried again at the next look through the connections.
-    pub(crate) fn listen_again(&self) {
-        if self.to_accept.load(Ordering::SeqCst) == 0 || self.drains() {
-            return;
-        }
-        let is_armed = self.ready.rearm(&self.listener, LISTENER, Interest::Read);
-        self.is_deaf.store(!is_armed, Ordering::SeqCst);
-        if !is_armed {
-            let text = "clients can't be waited for, and it is tried again each second";
-            self.notices.tell(About::Listener, text, "");
-        }
-    }
-
-    /// Puts a client into a free place, and waits for its first bytes. Answers whether they can be waited for.
-    pub(crate) fn put<R: Wait>(&self, rt: &R, at: usize, client: Client<C>) -> bool {
-        let Some(place) = self.places.get(at) else {
-            return false;
-        };
-        let mut place = place.lock(rt);
-        let is_added = self.ready.add(&client.stream, at as u64, Interest::Read);
-        if is_added {
-            place.client = Some(client);
-        }
-        is_added
-    }
-
-    /// Waits for the connection in a place again. Answers whether that can be done.
-    pub(crate) fn wait_again(&self, client: &Client<C>, at: usize, interest: Interest) -> bool {
-        self.ready.rearm(&client.stream, at as u64, interest)
-    }
-
-    /// A number that no other connection of the node has.
-    pub(crate) fn number(&self) -> u64 {
-        self.next_number.fetch_add(1, Ordering::SeqCst)
-    }
-
-    /// A client has gone that had no place.
-    pub(crate) fn count_gone(&self) {
-        self.to_end.fetch_sub(1, Ordering::SeqCst);
-    }
-
-    /// A connection has ended, and its place is free.
-    pub(crate) fn release<R: Wait>(&self, rt: &R, at: usize) {
-        let _ = self.free.lock(rt).push(at);
-        self.taken.fetch_sub(1, Ordering::SeqCst);
-        self.count_gone();
-    }
-
-    /// Ends the connections that are late, if the connections weren't looked through for a while.
-    pub(crate) fn sweep<R: Wait + Clock>(&self, rt: &R) {
-        let now = milliseconds(rt);
-        let swept = self.swept.load(Ordering::SeqCst);
-        if now.saturating_sub(swept) < self.limits.sweep {
-            return;
-        }
-        if self
-            .swept
-            .compare_exchange(swept, now, Ordering::SeqCst, Ordering::SeqCst)
-            .is_err()
-        {
-            return;
-        }
-        for at in 0..self.places.len() {
-            if self.ends_late(rt, at, now) {
-                self.release(rt, at);
+        for line in &self.lines {
+            if !line.set.listen(&self.listener) {
+                return false;
             }
         }
-        if self.is_deaf.load(Ordering::SeqCst) {
-            self.listen_again();
-        }
-        self.make_room(rt, now);
-        self.end_slow_replies(rt);
-    }
-
-    /// Ends the connection in a place if no worker has it and it is late, or idle while the node drains. Answers whether it did.
-    fn ends_late<R: Wait>(&self, rt: &R, at: usize, now: u64) -> bool {
-        let Some(place) = self.places.get(at) else {
-            return false;
-        };
-        let Some(mut place) = place.try_lock() else {
-            return false;
-        };
-        match &place.client {
-            Some(client)
-                if client.is_late(&self.limits, now) || self.drains() && client.is_idle() => {
-                self.end(rt, &mut place);
-                true
-            }
-            _ => false,
-        }
+        true
     }
 }

@@ -1,207 +1,230 @@
 //! What a worker of a node does in its turns.
 ghost use Rattle.std.specs.Prelude.{◌≡◌};
 
-use crate::clients::{Client, Whereabouts, prepare};
-use crate::closing::close_on;
-use crate::errands::Errand;
-use crate::nodes::{Node, Place, milliseconds};
-use crate::steps::{Next, NotBegun, Step, Steps};
-use crate::turns::Turn;
+use crate::lines::Message;
+use crate::nodes::{Node, milliseconds};
+use crate::steps::Steps;
 use crate::workers::Takes;
-use operator_notices::Kind as About;
+use socket_sets::{Listener, Ready, SocketSet, Told, Waits};
 use std::alloc::Global;
-use std::io::Error;
-use std::net::TcpStream;
 use std::sync::Wait;
-use std::thread;
-use std::time::{Clock, Duration};
+use std::time::Clock;
+use worker_connections::{Connections, Name, Turn};
 
-/// How many milliseconds a worker pauses where there is no descriptor, and no connection that could give one.
-const PAUSE: u64 = 10;
+/// How far apart the first numbers of the connections of two workers are: no worker has so many.
+const NUMBERS: u64 = 72_057_594_037_927_936;
 
-/// The system's numbers for want of memory, of descriptors in the system and in the process, and of room for sockets: ENOMEM, ENFILE, EMFILE and ENOBUFS.
-const WANTS: [i32; 4] = [12, 23, 24, 105];
+/// How many sockets one wait tells of at most.
+const MOST_TOLD: usize = 64;
 
-/// A worker of a node.
+/// How many messages a worker hears in a turn.
+const MOST_MESSAGES: u32 = 1_024;
+
+/// What a worker keeps of a connection: its socket, and what it takes along from step to step, unless a thread that may wait has that or the connection
+/// closes.
 #[derive(Drop)]
-pub struct Worker<'a, R, S: Steps + Drop> {
-    rt: &'a R,
-    alloc: Global,
-    node: &'a Node<S::Connection>,
-    steps: S,
+pub(crate) struct Kept<C, K> {
+    pub(crate) socket: K,
+    pub(crate) connection: Option<C>,
+}
+
+/// The numbers of the connections that are to go first for each want.
+#[derive(Clone, Copy, Debug)]
+pub(crate) struct Said {
+    pub(crate) place: Option<u64>,
+    pub(crate) body: Option<u64>,
+    pub(crate) reply: Option<u64>,
+}
+
+/// A worker of a node. It alone owns its connections.
+#[derive(Drop)]
+pub struct Worker<'a, R, S: Steps + Drop, L: Drop, P: Drop> {
+    pub(crate) rt: &'a R,
+    pub(crate) alloc: Global,
+    pub(crate) node: &'a Node<S::Connection, S::Socket, L, P>,
+    pub(crate) worker: usize,
+    pub(crate) steps: S,
+    pub(crate) connections: Connections<Kept<S::Connection, S::Socket>>,
+    /// What it said last.
+    pub(crate) said: Said,
+    /// A client that came when no place was free: a connection of some worker is asked for it.
+    pub(crate) newcomer: Option<S::Socket>,
+    /// Whether the listener isn't in the set.
+    pub(crate) is_deaf: bool,
+    /// Whether a descriptor was asked for.
+    pub(crate) asks_descriptor: bool,
+    /// When the connections were looked through last, and behind which place bodies that wait are let go on next.
+    pub(crate) swept: u64,
+    pub(crate) woken: usize,
+    /// Whether a body has gone in this turn, and whether a reply came to be held.
+    pub(crate) gave_room: bool,
+    pub(crate) took_room: bool,
     done: u64,
 }
 
-impl<'a, R: Wait + Clock, S: Steps + Drop> Worker<'a, R, S> {
-    /// A worker that has done nothing yet.
+impl<
+    'a,
+    R: Wait + Clock,
+    S: Steps + Drop,
+    L: Listener<S::Socket> + Drop,
+    P: Waits + SocketSet<S::Socket, L> + Drop,
+> Worker<'a, R, S, L, P> {
+    /// A worker that has done nothing yet. Its number is that of its turns.
     pub fn new(
         rt: &'a R,
         alloc: Global,
-        node: &'a Node<S::Connection>,
+        node: &'a Node<S::Connection, S::Socket, L, P>,
+        worker: usize,
         steps: S,
-    ) -> Worker<'a, R, S>
+    ) -> Worker<'a, R, S, L, P>
         ensures { result.done ≡ 0 }
     {
         Worker {
             rt,
             alloc,
             node,
+            worker,
             steps,
+            connections: Connections::new(alloc, (worker as u64).saturating_mul(NUMBERS)),
+            said: Said {
+                place: None,
+                body: None,
+                reply: None,
+            },
+            newcomer: None,
+            is_deaf: false,
+            asks_descriptor: false,
+            swept: 0,
+            woken: 0,
+            gave_room: false,
+            took_room: false,
             done: 0,
         }
     }
 
-    /// Accepts a client.
-    fn accept(&mut self)
-        ensures { self.new.done ≡ self.old.done }
-    {
-        let accepted = self.node.listener.accept();
-        if accepted.is_ok() {
-            self.node.count_accepted();
-        }
-        if let Err(error) = &accepted {
-            self.make_room(error);
-        }
-        self.node.listen_again();
-        if let Ok((stream, _)) = accepted {
-            self.begin(stream);
-        }
-    }
-
-    /// If no descriptor is left, the connection that is to go first gives its own.
-    fn make_room(&self, error: &Error) {
-        if lacks_room(error) && !self.node.give_up_first(self.rt) {
-            thread::sleep(self.rt, Duration::from_millis(PAUSE));
-        }
-    }
-
-    /// Gives a client a place, and waits for its first bytes. One that comes while the node drains isn't served.
-    fn begin(&mut self, stream: TcpStream)
-        ensures { self.new.done ≡ self.old.done }
-    {
-        if self.node.drains() {
-            self.node.count_gone();
-            return;
-        }
-        let Some(at) = self.node.claim(self.rt) else {
-            self.node.count_gone();
-            return;
-        };
-        if !self.begins_at(at, stream) {
-            self.node.release(self.rt, at);
-        }
-    }
-
-    /// Puts a client into a place that is free. Answers whether it is served.
-    fn begins_at(&mut self, at: usize, stream: TcpStream) -> bool
-        ensures { self.new.done ≡ self.old.done }
-    {
-        if !prepare(&stream) {
-            let text = "a connection can't be made ready, so it ends";
-            self.node.notices.tell(About::Listener, text, "");
-            return false;
-        }
-        let connection = match self.steps.begin(self.alloc, &stream) {
-            Ok(connection) => connection,
-            Err(NotBegun::Refused) => return false,
-            Err(NotBegun::OutOfMemory) => {
-                let text = "there is none for a connection, so it ends";
-                self.node.notices.tell(About::Memory, text, "");
-                return false;
+    /// The names of the connections that are ready, before any of them changes: what is told of one is for no other that has its place later in the turn.
+    fn names(&self, ready: &Ready) -> [Option<Name>; 64] {
+        let mut names = [None; 64];
+        for at in 0..MOST_TOLD {
+            if let Some(Told::Socket(place)) = ready.at(at) {
+                names[at] = self.connections.places().name_at(place);
             }
-        };
-        let now = milliseconds(self.rt);
-        let (number, span) = (self.node.number(), self.node.span(now));
-        let client = Client::new(stream, number, connection, now, span);
-        self.node.put(self.rt, at, client)
+        }
+        names
     }
 
-    /// Goes on with the connection in a place, unless a thread for errands has it.
-    fn go_on(&mut self, at: usize)
+    /// Does what a wait told of.
+    fn serve(&mut self, ready: &Ready)
         ensures { self.new.done ≡ self.old.done }
     {
-        let Some(place) = self.node.places.get(at) else {
-            return;
-        };
-        let mut place = place.lock(self.rt);
-        let Some(client) = &mut place.client else {
-            return;
-        };
-        if client.is_away() || !self.node.admits(self.rt, client) {
+        if ready.len() > 1 {
+            self.serve_all(ready);
             return;
         }
-        let before = client.begins_to_hold();
-        let step = self.step(client);
-        if step.next == Next::Leaves {
-            self.hand_over(at, &mut place);
-            return;
-        }
-        let is_over = self.node.drains() && client.is_idle();
-        let waits = match client.follow(step.next) {
-            Some(interest) if !is_over => self.node.wait_again(client, at, interest),
-            _ => false,
-        };
-        if !waits {
-            self.node.end(self.rt, &mut place);
-        }
-        drop(place);
-        if !waits {
-            self.node.release(self.rt, at);
-        }
-        self.node.balance(self.rt, before, step.holds);
-    }
-
-    /// Takes a step with a connection, and counts what it holds then.
-    fn step(&mut self, client: &mut Client<S::Connection>) -> Step
-        ensures { self.new.done ≡ self.old.done }
-    {
-        let step = match &mut client.connection {
-            Whereabouts::Here(connection) => {
-                self.steps.go_on(self.alloc, connection, &client.stream)
+        // Most waits of a node that isn't busy tell of one socket alone.
+        match ready.at(0) {
+            Some(Told::Woken) => self.hear(),
+            Some(Told::Client) => self.accept(),
+            Some(Told::Socket(place)) => {
+                if let Some(name) = self.connections.places().name_at(place) {
+                    self.go_on(name);
+                }
             }
-            Whereabouts::Away | Whereabouts::Over => close_on(&client.stream),
-        };
-        let now = milliseconds(self.rt);
-        client.note(&step, now, self.node.span(now));
-        self.node.count(self.rt, client, step.holds);
-        step
+            None => {}
+        }
     }
 
-    /// Hands the connection in a place over to the threads for errands. Without memory for that it ends.
-    fn hand_over(&self, at: usize, place: &mut Place<S::Connection>) {
-        let Some(client) = &mut place.client else {
-            return;
-        };
-        let Some(errand) = client.leave(at) else {
-            return;
-        };
-        if self.node.errands.give(self.rt, errand).is_ok() {
-            return;
+    /// Does what a wait told of that told of several.
+    fn serve_all(&mut self, ready: &Ready)
+        ensures { self.new.done ≡ self.old.done }
+    {
+        let names = self.names(ready);
+        for at in 0..MOST_TOLD {
+            match (ready.at(at), names[at]) {
+                (Some(Told::Woken), _) => self.hear(),
+                (Some(Told::Client), _) => self.accept(),
+                (Some(Told::Socket(_)), Some(name)) => self.go_on(name),
+                (Some(Told::Socket(_)), None) => {}
+                (None, _) => return,
+            }
         }
-        let text = "there is none for an errand, so its connection ends";
-        self.node.notices.tell(About::Memory, text, "");
-        client.connection = Whereabouts::Over;
-        self.node.end(self.rt, place);
-        self.node.release(self.rt, at);
+    }
+
+    /// Hears what other threads told.
+    fn hear(&mut self)
+        ensures { self.new.done ≡ self.old.done }
+    {
+        let Some(line) = self.node.lines.get(self.worker) else {
+            return;
+        };
+        line.set.calm();
+        for _ in 0..MOST_MESSAGES {
+            match line.next(self.rt) {
+                Some(message) => self.take_message(message),
+                None => return,
+            }
+        }
+        line.set.wake();
+    }
+
+    /// Does what another thread told.
+    fn take_message(&mut self, message: Message<S::Connection, S::Socket>)
+        ensures { self.new.done ≡ self.old.done }
+    {
+        match message {
+            Message::Came(socket) => self.begin(socket),
+            Message::Back(errand, step) => self.come_back(errand, &step),
+            Message::Room => self.wake(),
+            Message::Asked(ask) => self.answer_ask(&ask),
+            Message::Given => self.take_given(),
+            Message::Refused => self.take_refusal(),
+        }
+    }
+
+    /// Goes on with a connection whose turn it is.
+    pub(crate) fn go_on(&mut self, name: Name)
+        ensures { self.new.done ≡ self.old.done }
+    {
+        match self.connections.places().turn(name) {
+            Turn::Nothing => {}
+            Turn::Drop => self.drop_input(name),
+            Turn::Step => self.step(name, false),
+            Turn::IfRoom(held) => {
+                if self.has_room(name, held) {
+                    self.step(name, true);
+                }
+            }
+        }
+    }
+
+    /// What is left to do at the end of a turn: bodies that wait try again where one has gone, and replies end where they hold too much.
+    fn balance(&mut self)
+        ensures { self.new.done ≡ self.old.done }
+    {
+        if self.gave_room {
+            self.gave_room = false;
+            self.wake();
+            self.tell_waiting();
+        }
+        if self.took_room {
+            self.took_room = false;
+            self.end_slow_replies();
+        }
     }
 }
 
-/// Whether a client couldn't be accepted for want of a descriptor or of memory, which another connection can give. Other failures are the client's own.
-fn lacks_room(error: &Error) -> bool {
-    match error.raw_os_error() {
-        Some(number) => WANTS.contains(&number),
-        None => false,
-    }
-}
-
-impl<R: Wait + Clock, S: Steps + Drop> Takes<Turn> for Worker<'_, R, S> {
+impl<
+    R: Wait + Clock,
+    S: Steps + Drop,
+    L: Listener<S::Socket> + Drop,
+    P: Waits + SocketSet<S::Socket, L> + Drop,
+> Takes<Ready> for Worker<'_, R, S, L, P> {
     ghost done = { λ worker. worker.done };
 
-    fn take(&mut self, turn: Turn) {
-        match turn {
-            Turn::Accept => self.accept(),
-            Turn::GoOn(at) => self.go_on(at),
-        }
+    fn take(&mut self, turn: Ready) {
+        self.serve(&turn);
+        self.sweep(milliseconds(self.rt));
+        self.balance();
         self.done += 1;
     }
 }

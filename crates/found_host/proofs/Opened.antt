@@ -49,7 +49,7 @@ not_there did old limit entries fault.OutOfMemory new why = inl why
 -- why the journal can't be opened
 pub journal_stops : {D : Type 0} (disk : Ghosts D) (first second : D) (why : of_disk.OpenFault) (new_first new_second : D)
     → (IsTrue disk.is_modelled → why ≡ journal_fault.BadHeader → AreForeign (disk.seen first) (disk.seen second))
-    → (IsTrue disk.is_modelled → (number : ℕ) → why ≡ journal_fault.BadRecord number → ReadsBad (λ before. IsText) number (disk.seen first) (disk.seen second))
+    → (IsTrue disk.is_modelled → (number : ℕ) → why ≡ journal_fault.BadRecord number → ReadsBad (λ header before. IsText header) number (disk.seen first) (disk.seen second))
     → (IsTrue disk.is_modelled → (why ≡ journal_fault.Device → ⊥) → BothOnlyRead disk.seen disk.may_leave disk.moment disk.left_since first second new_first new_second)
     → IsSpared disk first second new_first new_second → StopsEither why (disk.faults first) (disk.faults second) (disk.faults new_first) (disk.faults new_second) → IsJournalFault disk first second (of_journal why) new_first new_second
 journal_stops disk first second journal_fault.BadHeader new_first new_second foreign bad unwritten spared told = (λ modelled. foreign modelled refl, λ modelled. unwritten modelled (λ e. absurd (cc e)))

@@ -60,7 +60,7 @@ IsUnwritten disk first second new_first new_second =
 -- of modelled disks: nothing was written to slots that are refused
 abbrev pub IsSpared : {D : Type 0} → Ghosts D → (first second new_first new_second : D) → Type 0
 IsSpared disk first second new_first new_second =
-    IsTrue disk.is_modelled → AreRefused (λ before. IsText) (disk.seen first) (disk.seen second)
+    IsTrue disk.is_modelled → AreRefused (λ header before. IsText header) (disk.seen first) (disk.seen second)
     → BothOnlyRead disk.seen disk.may_leave disk.moment disk.left_since first second new_first new_second
 
 -- the journal can't be opened: the slots have none, or a bad record, or there was no memory, and nothing was written; or a device failed, which
@@ -69,7 +69,7 @@ abbrev pub IsJournalFault : {D : Type 0} → Ghosts D → (first second : D) →
 IsJournalFault disk first second fault.BadHeader new_first new_second =
     (IsTrue disk.is_modelled → AreForeign (disk.seen first) (disk.seen second)) × IsUnwritten disk first second new_first new_second
 IsJournalFault disk first second (fault.BadRecord n) new_first new_second =
-    (IsTrue disk.is_modelled → ReadsBad (λ before. IsText) n (disk.seen first) (disk.seen second)) × IsUnwritten disk first second new_first new_second
+    (IsTrue disk.is_modelled → ReadsBad (λ header before. IsText header) n (disk.seen first) (disk.seen second)) × IsUnwritten disk first second new_first new_second
 IsJournalFault disk first second fault.JournalDevice new_first new_second =
     StopsEither journal_fault.Device (disk.faults first) (disk.faults second) (disk.faults new_first) (disk.faults new_second)
     × IsSpared disk first second new_first new_second

@@ -105,7 +105,8 @@ impl<D: Disk, S: Shelf> Found<D, S> {
         ensures no_journal { IsTrue D.is_modelled → AreForeign (D.seen first) (D.seen second)
             → MatchResult result (λ _. ⊥) (λ stop.
             (stop.fault ≡ BadHeader) ⊎ (stop.fault ≡ JournalDevice)) }
-        ensures reason { IsTrue D.is_modelled → AreRefused (λ before. IsText) (D.seen first) (D.seen second)
+        ensures reason { IsTrue D.is_modelled
+            → AreRefused (λ header before. IsText header) (D.seen first) (D.seen second)
             → IfErr result (λ stop. stop.fault ≡ JournalDevice → MayFailReading D.seen D.may_fail (D.seen first)
             ⊎ MayFailReading D.seen D.may_fail (D.seen second)) }
         ensures device { IfErr result (λ stop. stop.fault ≡ BlobsDevice

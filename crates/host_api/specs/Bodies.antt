@@ -124,7 +124,7 @@ abbrev pub alias_ask : SiteName → AliasName → List ℕ → Result Ask Refusa
 alias_ask site name body =
     ok_or (option_map (λ n. ask.Command (command.MoveAlias site name n)) (number_at (codes "deploy") body)) BadBody
 
--- ---- renaming a file
+-- ---- renaming a file or a folder
 
 -- the text that a body has as its member of this name
 abbrev pub text_at : List ℕ → List ℕ → Option (List ℕ)
@@ -134,15 +134,22 @@ text_at name body = option_and_then as_str (option_and_then (get_member name) (o
 abbrev pub path_in : List ℕ → Result (List ℕ) Refusal
 path_in text = if is_path (with_slash text) then Ok (with_slash text) else Err BadPath
 
--- the renaming from one path to the other, where both members are texts and both texts are paths
-abbrev pub rename_with : SiteName → Option (List ℕ) → Option (List ℕ) → Result Ask Refusal
-rename_with site (Some source) (Some target) =
-    then_with (path_in source) (λ from. then_with (path_in target) (λ to. Ok (ask.Command (command.Rename site from to))))
-rename_with site source target = Err BadBody
+-- the two paths, where both members are texts and both texts are paths
+abbrev pub paths_with : Option (List ℕ) → Option (List ℕ) → Result (List ℕ × List ℕ) Refusal
+paths_with (Some source) (Some target) = then_with (path_in source) (λ from. then_with (path_in target) (λ to. Ok (from, to)))
+paths_with source target = Err BadBody
 
--- the file that a body renames
+-- those of a body
+abbrev pub paths_of : List ℕ → Result (List ℕ × List ℕ) Refusal
+paths_of body = paths_with (text_at (codes "from") body) (text_at (codes "to") body)
+
+-- the file that a body renames, from the one path to the other
 abbrev pub rename_ask : SiteName → List ℕ → Result Ask Refusal
-rename_ask site body = rename_with site (text_at (codes "from") body) (text_at (codes "to") body)
+rename_ask site body = then_with (paths_of body) (λ paths. Ok (ask.Command (command.Rename site paths.0 paths.1)))
+
+-- the folder that it renames
+abbrev pub rename_folder_ask : SiteName → List ℕ → Result Ask Refusal
+rename_folder_ask site body = then_with (paths_of body) (λ paths. Ok (ask.Command (command.RenameFolder site paths.0 paths.1)))
 
 -- ---- any route
 
@@ -152,6 +159,7 @@ asked (route.Ready wanted) body = Ok wanted
 asked (route.Open site) body = open_ask site body
 asked (route.MoveAlias site name) body = alias_ask site name body
 asked (route.Rename site) body = rename_ask site body
+asked (route.RenameFolder site) body = rename_folder_ask site body
 asked (route.Undo site) body = undo_ask site body
 
 -- whether the body says what is asked for

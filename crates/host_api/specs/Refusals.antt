@@ -5,7 +5,7 @@ use Rattle.host_names.specs.declared.paths.PathError.TheVariants as path
 use Rattle.site_change.specs.declared.refusals.ChangeError.{ChangeError}
 use Rattle.site_change.specs.declared.refusals.ChangeError.TheVariants as change
 use Rattle.site_change.specs.declared.refusals.ChangeRefusal.{ChangeRefusal}
-use Rattle.site_change.specs.declared.refusals.ChangeRefusal.TheVariants.{HistoryFull, TooManyFiles, NoSuchDraft, NotComplete, NoSuchDeploy, NoSuchFile, PathTaken, SamePath, NoSuchAlias, DeployInUse, NoSuchChange, NotAChange, AlreadyUndone, Clash}
+use Rattle.site_change.specs.declared.refusals.ChangeRefusal.TheVariants.{HistoryFull, TooManyFiles, NoSuchDraft, NotComplete, NoSuchDeploy, NoSuchFile, PathTaken, SamePath, NestedFolder, PathTooLong, NoSuchAlias, DeployInUse, NoSuchChange, NotAChange, AlreadyUndone, Clash}
 use Rattle.host_api.specs.declared.refusals.HeadRefusal.{HeadRefusal}
 use Rattle.host_api.specs.declared.refusals.HeadRefusal.TheVariants.{HeadTooLarge, BadHead, CodingRefused, LengthBad, BodyTooLarge}
 use Rattle.host_api.specs.declared.refusals.Refusal.{Refusal}
@@ -21,6 +21,8 @@ shown_of_change NoSuchDeploy = (codes "NoSuchDeploy", 404)
 shown_of_change NoSuchFile = (codes "NoSuchFile", 404)
 shown_of_change PathTaken = (codes "PathTaken", 409)
 shown_of_change SamePath = (codes "SamePath", 409)
+shown_of_change NestedFolder = (codes "NestedFolder", 409)
+shown_of_change PathTooLong = (codes "PathTooLong", 409)
 shown_of_change NoSuchAlias = (codes "NoSuchAlias", 404)
 shown_of_change (DeployInUse name) = (codes "DeployInUse", 409)
 shown_of_change NoSuchChange = (codes "NoSuchChange", 404)

@@ -61,6 +61,7 @@ rows =
     ∷ whole (OfSite site_resource.Restore) Post (of_site (word (codes "deploys") ∷ number ∷ word (codes "restore") ∷ []))
     ∷ whole (OfAlias alias_resource.Itself) PutOrDelete (of_site (word (codes "aliases") ∷ alias ∷ []))
     ∷ whole (OfSite site_resource.Rename) Post (of_site (word (codes "rename") ∷ []))
+    ∷ whole (OfSite site_resource.RenameFolder) Post (of_site (word (codes "rename-folder") ∷ []))
     ∷ with_path (OfSite site_resource.File) Delete (of_site (word (codes "files") ∷ []))
     ∷ whole (OfSite site_resource.Undo) Post (of_site (word (codes "undo") ∷ []))
     ∷ whole (OfSite site_resource.Changes) Read (of_site (word (codes "changes") ∷ []))
@@ -119,6 +120,7 @@ site_route site_resource.KeptFile name deploy rest = read_route name (version.Ke
 site_route site_resource.Deploys name deploy rest = Ok (route.Open name)
 site_route site_resource.Restore name deploy rest = Ok (route.Ready (ask.Command (command.Restore name deploy)))
 site_route site_resource.Rename name deploy rest = Ok (route.Rename name)
+site_route site_resource.RenameFolder name deploy rest = Ok (route.RenameFolder name)
 site_route site_resource.File name deploy rest = remove_route name rest
 site_route site_resource.Undo name deploy rest = Ok (route.Undo name)
 site_route site_resource.Changes name deploy rest = Ok (route.Ready (ask.Changes name))

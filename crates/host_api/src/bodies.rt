@@ -1,7 +1,7 @@
 //! What the body of a request asks for.
 ghost use Rattle.std.specs.Prelude.{◌≡◌, ◌≢◌, Ok, Err, IsTrue, IfOk, IfErr, IsErrOf};
 ghost use Rattle.std.specs.Str.{is_utf8};
-ghost use Rattle.host_api.specs.Bodies.{asked, open_ask, alias_ask, rename_ask, undo_ask, is_parsed};
+ghost use Rattle.host_api.specs.Bodies.{asked, open_ask, alias_ask, paths_of, rename_ask, rename_folder_ask, undo_ask, is_parsed};
 
 use crate::documents::document;
 use crate::listings::{form_of, listed, path_of};
@@ -97,11 +97,10 @@ fn move_alias(alloc: Global, site: SiteName, name: AliasName, body: &[u8]) -> Re
     }
 }
 
-// The file that a body renames.
-fn rename(alloc: Global, site: SiteName, body: &[u8]) -> Result<Ask, Refusal>
-    ensures ok { IfOk result (λ ask. rename_ask site body.now ≡ Ok ask) }
-    ensures refused { IfErr result (λ refusal. refusal ≢ Refusal.OutOfMemory →
-        rename_ask site body.now ≡ Err refusal) }
+// The two paths of a renaming.
+fn two_paths(alloc: Global, body: &[u8]) -> Result<(FilePath, FilePath), Refusal>
+    ensures ok { IfOk result (λ paths. paths_of body.now ≡ Ok paths) }
+    ensures refused { IfErr result (λ refusal. refusal ≢ Refusal.OutOfMemory → paths_of body.now ≡ Err refusal) }
     ensures memory { IsErrOf result Refusal.OutOfMemory → IsTrue (is_utf8 body.now) }
 {
     let body = document(alloc, body)?;
@@ -110,7 +109,33 @@ fn rename(alloc: Global, site: SiteName, body: &[u8]) -> Result<Ask, Refusal>
     };
     let source = path_of(alloc, from)?;
     let target = path_of(alloc, to)?;
+    Ok((source, target))
+}
+
+// The file that a body renames.
+fn rename(alloc: Global, site: SiteName, body: &[u8]) -> Result<Ask, Refusal>
+    ensures ok { IfOk result (λ ask. rename_ask site body.now ≡ Ok ask) }
+    ensures refused { IfErr result (λ refusal. refusal ≢ Refusal.OutOfMemory →
+        rename_ask site body.now ≡ Err refusal) }
+    ensures memory { IsErrOf result Refusal.OutOfMemory → IsTrue (is_utf8 body.now) }
+{
+    let (source, target) = two_paths(alloc, body)?;
     Ok(Ask::Command(Command::Rename {
+        site,
+        source,
+        target,
+    }))
+}
+
+// The folder that a body renames.
+fn rename_folder(alloc: Global, site: SiteName, body: &[u8]) -> Result<Ask, Refusal>
+    ensures ok { IfOk result (λ ask. rename_folder_ask site body.now ≡ Ok ask) }
+    ensures refused { IfErr result (λ refusal. refusal ≢ Refusal.OutOfMemory →
+        rename_folder_ask site body.now ≡ Err refusal) }
+    ensures memory { IsErrOf result Refusal.OutOfMemory → IsTrue (is_utf8 body.now) }
+{
+    let (source, target) = two_paths(alloc, body)?;
+    Ok(Ask::Command(Command::RenameFolder {
         site,
         source,
         target,
@@ -128,6 +153,7 @@ pub fn ask_of(alloc: Global, route: Route, body: &[u8]) -> Result<Ask, Refusal>
         Route::Open { site } => open(alloc, site, body),
         Route::MoveAlias { site, alias } => move_alias(alloc, site, alias, body),
         Route::Rename { site } => rename(alloc, site, body),
+        Route::RenameFolder { site } => rename_folder(alloc, site, body),
         Route::Undo { site } => undo(alloc, site, body),
     }
 }

@@ -42,6 +42,7 @@ pub fn word_of(command: &Command) -> Word
         Command::Cancel { .. } => "cancel",
         Command::Remove { .. } => "remove",
         Command::Rename { .. } => "rename",
+        Command::RenameFolder { .. } => "rename-folder",
         Command::MoveAlias { .. } => "alias",
         Command::RemoveAlias { .. } => "unalias",
         Command::Restore { .. } => "restore",

@@ -77,6 +77,8 @@ fn shown_of_change(reason: &ChangeRefusal) -> (&'static str, StatusCode)
         ChangeRefusal::NoSuchFile => ("NoSuchFile", StatusCode::NOT_FOUND),
         ChangeRefusal::PathTaken => ("PathTaken", StatusCode::CONFLICT),
         ChangeRefusal::SamePath => ("SamePath", StatusCode::CONFLICT),
+        ChangeRefusal::NestedFolder => ("NestedFolder", StatusCode::CONFLICT),
+        ChangeRefusal::PathTooLong => ("PathTooLong", StatusCode::CONFLICT),
         ChangeRefusal::NoSuchAlias => ("NoSuchAlias", StatusCode::NOT_FOUND),
         ChangeRefusal::DeployInUse(_) => ("DeployInUse", StatusCode::CONFLICT),
         ChangeRefusal::NoSuchChange => ("NoSuchChange", StatusCode::NOT_FOUND),

@@ -52,6 +52,8 @@ pub(crate) enum SiteResource {
     Restore,
     /// `/api/v1/sites/{site}/rename`: the renaming of a file.
     Rename,
+    /// `/api/v1/sites/{site}/rename-folder`: the renaming of a folder.
+    RenameFolder,
     /// `/api/v1/sites/{site}/files/{path}`: a file of the site, to be removed.
     File,
     /// `/api/v1/sites/{site}/undo`: the undoing of a change.

@@ -31,6 +31,8 @@ pub enum Route {
     MoveAlias { site: SiteName, alias: AliasName },
     /// Renames a file; the body has its paths.
     Rename { site: SiteName },
+    /// Renames a folder; the body has its paths.
+    RenameFolder { site: SiteName },
     /// Undoes a change, which the body names.
     Undo { site: SiteName },
 }
@@ -119,6 +121,7 @@ fn to_site(
             number: deploy,
         }))),
         SiteResource::Rename => Ok(Route::Rename { site }),
+        SiteResource::RenameFolder => Ok(Route::RenameFolder { site }),
         SiteResource::Undo => Ok(Route::Undo { site }),
         SiteResource::Changes => Ok(Route::Ready(Ask::Changes { site })),
     }

@@ -74,6 +74,12 @@ const ROWS: &[Row] = &[
         has_rest: false,
     },
     Row {
+        kind: ResourceKind::OfSite(SiteResource::RenameFolder),
+        methods: Methods::Post,
+        parts: of_site![Part::Word("rename-folder")],
+        has_rest: false,
+    },
+    Row {
         kind: ResourceKind::OfSite(SiteResource::File),
         methods: Methods::Delete,
         parts: of_site![Part::Word("files")],

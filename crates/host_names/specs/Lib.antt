@@ -1,6 +1,7 @@
 -- what public clauses say
 pub mod Name
 pub mod Path
+pub mod Folders
 pub mod Hex
 pub mod Digests
 pub mod Cells

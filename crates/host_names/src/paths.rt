@@ -1,10 +1,12 @@
 //! Paths of files within a site.
-ghost use Rattle.std.specs.Prelude.{◌≡◌, ◌↔◌, ◌∷◌, ◌≤◌, length, false, Some, Err, IsTrue, IfOk, IsErrOf, nat_eq, refl};
+ghost use Rattle.std.specs.Prelude.{◌≡◌, ◌↔◌, ◌∷◌, ◌++◌, [], ◌≤◌, ◌+◌, length, false, Some, Err, IsTrue, IfOk, IsErrOf, nat_eq, refl};
 ghost use Rattle.std.specs.List.{list_all};
-ghost use Rattle.std.specs.Ordering.{nat_cmp};
+ghost use Rattle.std.specs.Ordering.{nat_cmp, is_lt};
 ghost use Rattle.std.specs.Cmp.{partial_equiv_from_equiv};
 ghost use Rattle.std.specs.Cmp.Lexicographic.{pointwise, slice_cmp, nat_list_eq_equiv, nat_list_cmp_total, texts_po, texts_ties};
 ghost use Rattle.std.specs.String.{string_bytes};
+ghost use Rattle.host_names.specs.Folders as folders;
+ghost use Rattle.host_names.specs.Folders.{begins_with};
 ghost use Rattle.host_names.specs.Path.{is_path, is_relative_path, segments, with_slash};
 
 use std::alloc::{AllocError, Global};
@@ -102,6 +104,34 @@ fn slashed(alloc: Global, text: &str) -> Result<String, AllocError>
     Ok(path)
 }
 
+/// A text after another.
+fn joined(alloc: Global, front: &str, rest: &str) -> Result<String, AllocError>
+    requires { length front.now + length rest.now ≤ 1024 }
+    ensures { IfOk result (λ text. string_bytes text ≡ front.now ++ rest.now) }
+{
+    let mut text = String::with_capacity(alloc, front.len() + rest.len())?;
+    text.push_str(front)?;
+    text.push_str(rest)?;
+    Ok(text)
+}
+
+/// Whether a text begins with a slash.
+fn begins_with_slash(text: &[u8]) -> bool
+    ensures { result ≡ begins_with text.now (47 ∷ []) }
+{
+    matches!(text, [b'/', ..])
+}
+
+/// Whether a text comes before a slash.
+fn comes_before_slash(text: &[u8]) -> bool
+    ensures { result ≡ is_lt (slice_cmp nat_cmp text.now (47 ∷ [])) }
+{
+    match text.first() {
+        Some(byte) => *byte < b'/',
+        None => true,
+    }
+}
+
 impl FilePath {
     /// The path that a text is, with a slash put before it where it has none.
     pub fn read(alloc: Global, text: &str) -> Result<FilePath, PathError>
@@ -124,6 +154,53 @@ impl FilePath {
         ensures lawful { IsTrue (is_path self.now) }
     {
         self.text.as_str()
+    }
+
+    /// Whether it is below a folder: it begins with the folder's path and a slash.
+    pub fn is_below(&self, folder: &FilePath) -> bool
+        ensures { result ≡ folders.is_below folder.now self.now }
+    {
+        match self.as_str().strip_prefix(folder.as_str()) {
+            Some(rest) => begins_with_slash(rest.as_bytes()),
+            None => false,
+        }
+    }
+
+    /// Whether it comes before each path below a folder, in the order of paths.
+    pub fn is_before_folder(&self, folder: &FilePath) -> bool
+        ensures { result ≡ is_lt (slice_cmp nat_cmp self.now (folders.slash_after folder.now)) }
+    {
+        match self.as_str().strip_prefix(folder.as_str()) {
+            Some(rest) => comes_before_slash(rest.as_bytes()),
+            None => self.cmp(folder).is_lt(),
+        }
+    }
+
+    /// How many bytes its path has once the one folder, which it is below, has become the other.
+    pub fn moved_len(&self, source: &FilePath, target: &FilePath) -> usize
+        ensures { result ≡ length (folders.moved source.now target.now self.now) }
+    {
+        let rest = self.as_str().len().saturating_sub(source.as_str().len());
+        target.as_str().len() + rest
+    }
+
+    /// Its path once the one folder, which it is below, has become the other.
+    pub fn moved(
+        &self,
+        alloc: Global,
+        source: &FilePath,
+        target: &FilePath,
+    ) -> Result<FilePath, AllocError>
+        requires below { IsTrue (folders.is_below source.now self.now) }
+        requires short { length (folders.moved source.now target.now self.now) ≤ 1024 }
+        ensures { IfOk result (λ path. path ≡ folders.moved source.now target.now self.now) }
+    {
+        let Some(rest) = self.as_str().strip_prefix(source.as_str()) else {
+            unreachable!()
+        };
+        let text = joined(alloc, target.as_str(), rest)?;
+        let text = Arc::new(alloc, text)?;
+        Ok(FilePath { text })
     }
 }
 

@@ -1,18 +1,18 @@
 //! What the threads do that may wait.
 use crate::groups::HostGroup;
-use crate::guests::{GuestSteps, Noted};
+use crate::guests::{GuestSteps, NotedBox};
 use crate::nodes::step_away;
 use blob_store::{AbsenceReceipt, PutReceipt, ShelfAccess};
 use byte_view::BlobInfo;
 use connection_rules::Stage;
 use desk_seats::SeatedDesk;
-use event_loop::{Holding, Next, SlowSteps, Step};
+use event_loop::SlowSteps;
 use host_disk::Disk;
 use left_right::Absorb;
 use peer_link::TcpLink;
 use seen_lists::ListName;
 use shared_desk::Desk;
-use shared_house::{DeskVisitor, GroupFiles, Guest, SharedHouse};
+use shared_house::{DeskVisitor, GroupFiles, Guest, Patient, SharedHouse};
 use site_change::Entry;
 use site_desk::{DeskName, Notice, Seat};
 use std::alloc::Global;
@@ -20,12 +20,14 @@ use std::net::{Net, TcpStream};
 use std::sync::{Mutex, Wait};
 use std::thread::Threads;
 use std::time::Clock;
+use worker_connections::{Holding, Next, Step};
 
 /// The steps of one request.
 type AwaySteps<'a, 'g, 'h, J, K, D, S, T, R, Q, U, N> = GuestSteps<
     J,
     SeatedDesk<'a, J, K, D, S, T, R, R, Q, U, N>,
     GroupFiles<'a, R, HostGroup<'g, 'h, R, S, Q, U, N>, TcpLink<'h, R>>,
+    Patient,
 >;
 
 /// Answers the requests that workers leave: over what the worker saw, and with calls that may wait.
@@ -79,7 +81,7 @@ fn steps_of<
     let files = GroupFiles::new(rt, errands.group);
     let house = SharedHouse::new(sight, desk, files).ok()?;
     Some(GuestSteps {
-        guest: Guest::new(house),
+        guest: Guest::new(house, Patient),
     })
 }
 
@@ -94,9 +96,9 @@ impl<
     U: PutReceipt + Drop,
     N: AbsenceReceipt + Drop,
 > SlowSteps for GuestErrands<'_, J, K, D, S, T, R, Q, HostGroup<'_, '_, R, S, Q, U, N>> {
-    type Connection = Noted<J>;
+    type Connection = NotedBox<J>;
 
-    fn go_on(&mut self, alloc: Global, noted: &mut Noted<J>) -> Step {
+    fn go_on(&mut self, alloc: Global, noted: &mut NotedBox<J>) -> Step {
         let Some(sight) = noted.sight.take() else {
             return lost();
         };

@@ -1,14 +1,21 @@
 //! What the workers answer over.
+ghost use Rattle.std.specs.Prelude.{◌≡◌};
+ghost use Rattle.host_connection.specs.declared.steps.Progress.TheVariants as came;
+ghost use Rattle.host_connection.specs.declared.steps.Wants.TheVariants as wants;
+ghost use Rattle.worker_connections.specs.declared.steps.Interest.TheVariants as interest;
+ghost use Rattle.worker_connections.specs.declared.steps.Next.TheVariants as next;
+
 use crate::inputs::Input;
 use connection_rules::{HeldReply, Stage};
-use event_loop::{Holding, Interest, Next, NotBegun, SlowSteps, Step, Steps};
+use event_loop::{NotBegun, SlowSteps, Steps};
 use host_connection::{Connection, Metered, Progress, Stage as Phase, Wants};
 use host_names::Digest;
-use shared_house::{DeskAccess, DeskVisitor, FileAccess, Guest, Note};
+use shared_house::{DeskAccess, DeskVisitor, FileAccess, Guest, Haste, Note, Patient, Quick};
 use site_desk::DeskName;
-use std::alloc::Global;
+use std::alloc::{AllocError, Global};
 use std::net::TcpStream;
 use tcp_socket::Socket;
+use worker_connections::{Holding, Interest, Next, Step};
 
 /// A connection, the note of what it saw last, and what is known of its input. While a request waits to be answered by a thread that may wait, what a worker
 /// saw for it is here.
@@ -20,41 +27,55 @@ pub(crate) struct Noted<J: DeskName> {
     pub(crate) sight: Option<DeskVisitor<J>>,
 }
 
-/// A guest, as what goes on with the connections of a worker.
-#[derive(Drop)]
-pub(crate) struct GuestSteps<J: DeskName, D: Drop, G: Drop> {
-    pub(crate) guest: Guest<J, D, G>,
+/// It is in a box, so a worker that takes a step and threads that hand it on move its address alone.
+pub(crate) type NotedBox<J> = Box<Noted<J>>;
+
+/// Puts it into a box.
+fn boxed<J: DeskName>(alloc: Global, noted: Noted<J>) -> Result<NotedBox<J>, AllocError> {
+    Ok(Box::new(alloc, noted)?)
 }
 
-impl<J: DeskName, D: DeskAccess<J> + Drop, G: FileAccess + Drop> Steps for GuestSteps<J, D, G> {
-    type Connection = Noted<J>;
+/// A guest, as what goes on with the connections of a worker.
+#[derive(Drop)]
+pub(crate) struct GuestSteps<J: DeskName, D: Drop, G: Drop, H: Drop> {
+    pub(crate) guest: Guest<J, D, G, H>,
+}
 
-    fn begin(&mut self, alloc: Global, _stream: &TcpStream) -> Result<Noted<J>, NotBegun> {
-        Ok(Noted {
+/// A worker waits for nothing but its set.
+impl<J: DeskName, D: DeskAccess<J> + Drop, G: FileAccess + Drop> Steps
+    for GuestSteps<J, D, G, Quick> {
+    type Socket = TcpStream;
+
+    type Connection = NotedBox<J>;
+
+    fn begin(&mut self, alloc: Global, _socket: &TcpStream) -> Result<NotedBox<J>, NotBegun> {
+        let noted = Noted {
             connection: Connection::new(alloc)?,
             note: self.guest.note(),
             input: Input::new(),
             sight: None,
-        })
+        };
+        Ok(boxed(alloc, noted)?)
     }
 
-    fn go_on(&mut self, alloc: Global, noted: &mut Noted<J>, stream: &TcpStream) -> Step {
-        step_of(&mut self.guest, alloc, noted, Socket::new(stream))
+    fn go_on(&mut self, alloc: Global, noted: &mut NotedBox<J>, socket: &TcpStream) -> Step {
+        step_of(&mut self.guest, alloc, noted, Socket::new(socket))
     }
 }
 
 /// The steps of a thread that may wait need no socket.
-impl<J: DeskName, D: DeskAccess<J> + Drop, G: FileAccess + Drop> SlowSteps for GuestSteps<J, D, G> {
-    type Connection = Noted<J>;
+impl<J: DeskName, D: DeskAccess<J> + Drop, G: FileAccess + Drop> SlowSteps
+    for GuestSteps<J, D, G, Patient> {
+    type Connection = NotedBox<J>;
 
-    fn go_on(&mut self, alloc: Global, noted: &mut Noted<J>) -> Step {
+    fn go_on(&mut self, alloc: Global, noted: &mut NotedBox<J>) -> Step {
         step_of(&mut self.guest, alloc, noted, Socket::away())
     }
 }
 
 /// A step of a connection over a socket, by a guest.
-fn step_of<J: DeskName, D: DeskAccess<J> + Drop, G: FileAccess + Drop>(
-    guest: &mut Guest<J, D, G>,
+fn step_of<J: DeskName, D: DeskAccess<J> + Drop, G: FileAccess + Drop, H: Haste + Drop>(
+    guest: &mut Guest<J, D, G, H>,
     alloc: Global,
     noted: &mut Noted<J>,
     socket: Socket<'_>,
@@ -123,7 +144,11 @@ fn held_by(connection: &Connection, phase: Phase) -> Holding {
 
 /// What follows a step. A connection that may go on at once waits for whatever comes first: so others that are ready have their turn before. But if nothing
 /// of a next request has come, it has only to read.
-fn next_of(progress: Progress, phase: Phase, input: &Input) -> Next {
+fn next_of(progress: Progress, phase: Phase, input: &Input) -> Next
+    ensures reads { progress ≡ came.Waits wants.Read → result ≡ next.Waits interest.Read }
+    ensures writes { progress ≡ came.Waits wants.Write → result ≡ next.Waits interest.Write }
+    ensures leaves { progress ≡ came.Postponed → result ≡ next.Leaves }
+{
     match progress {
         Progress::Waits(Wants::Read) => Next::Waits(Interest::Read),
         Progress::Waits(Wants::Write) => Next::Waits(Interest::Write),

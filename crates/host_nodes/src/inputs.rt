@@ -1,9 +1,9 @@
 //! What is known of the input of a connection when it is over.
 ghost use Rattle.std.specs.Prelude.{◌≡◌, ◌&&◌, not};
 
-use event_loop::Next;
 use shared_house::Answered;
 use tcp_socket::Socket;
+use worker_connections::Next;
 
 /// What is known of what a client sends.
 #[derive(Clone, Copy, Debug, PartialEq, Eq)]

@@ -1,13 +1,13 @@
 //! The threads of the nodes.
-use event_loop::{
-    ErrandTurns, ErrandWorker, Node, NodeTurns, SlowSteps, Step, Steps, Worker, work,
-};
+use event_loop::{ErrandTurns, ErrandWorker, Node, NodeTurns, SlowSteps, Steps, Worker, work};
 use node_process::Start;
+use socket_sets::{Listener, SocketSet, Waits};
 use std::alloc::{AllocError, Global};
 use std::sync::Wait;
 use std::thread;
 use std::thread::Threads;
 use std::time::Clock;
+use worker_connections::Step;
 
 /// How many threads of a node answer what its workers leave.
 pub(crate) const ERRAND_THREADS: usize = 2;
@@ -17,28 +17,32 @@ pub(crate) const PEER_THREADS: usize = 2;
 
 /// A worker, and the node whose clients it serves.
 #[derive(Drop)]
-pub(crate) struct Job<'a, S: Steps + Drop> {
-    pub(crate) node: &'a Node<S::Connection>,
+pub(crate) struct Job<'a, S: Steps + Drop, L: Drop, P: Drop> {
+    pub(crate) node: &'a Node<S::Connection, S::Socket, L, P>,
     pub(crate) steps: S,
 }
 
 /// Serves whoever connects to a node, until it ends.
-pub(crate) fn serve_clients<R: Wait + Clock, S: Steps + Drop>(
-    rt: &R,
-    alloc: Global,
-    job: Job<'_, S>,
-) {
+pub(crate) fn serve_clients<
+    R: Wait + Clock,
+    S: Steps + Drop,
+    L: Listener<S::Socket> + Drop,
+    P: Waits + SocketSet<S::Socket, L> + Drop,
+>(rt: &R, alloc: Global, job: Job<'_, S, L, P>) {
     let Job { node, steps } = job;
-    let mut turns = NodeTurns::new(rt, node);
-    let mut worker = Worker::new(rt, alloc, node, steps);
+    let Some(number) = node.next_worker() else {
+        return;
+    };
+    let mut turns = NodeTurns::new(rt, node, number);
+    let mut worker = Worker::new(rt, alloc, node, number, steps);
     work(rt, &mut turns, &mut worker);
 }
 
 /// Does what the workers of a node leave, until the node ends.
-pub(crate) fn do_errands<R: Wait + Clock, S: SlowSteps + Drop>(
+pub(crate) fn do_errands<R: Wait + Clock, S: SlowSteps + Drop, K: Drop, L: Drop, P: Waits + Drop>(
     rt: &R,
     alloc: Global,
-    node: &Node<S::Connection>,
+    node: &Node<S::Connection, K, L, P>,
     steps: S,
 ) {
     let mut turns = ErrandTurns::new(rt, node);

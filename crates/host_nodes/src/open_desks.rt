@@ -6,6 +6,7 @@ ghost use Rattle.host_nodes.specs.Ports.{LeavesRoom};
 
 use crate::desks::serve_desk;
 use crate::lines::Failure;
+use crate::nodes::PEER_THREADS;
 use crate::ports::bind_all;
 use crate::posts::{Plan, Posts, Staff, posts_of};
 use crate::runtimes::Serving;
@@ -102,7 +103,9 @@ fn plan_of<P: Process>(
     process: &P,
 ) -> Result<Plan, Failure> {
     let (nodes, workers) = numbers(options);
-    let places = places_of(process.descriptors(), nodes).ok_or(Failure::CannotListen)?;
+    // The threads that answer other nodes are workers too.
+    let all = workers.saturating_add(PEER_THREADS as u64);
+    let places = places_of(process.descriptors(), nodes, all).ok_or(Failure::CannotListen)?;
     Ok(Plan {
         workers: workers as usize,
         places,

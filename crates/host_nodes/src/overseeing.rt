@@ -5,7 +5,7 @@ use crate::ports::Ports;
 use crate::tasks::end_all;
 use chunk_group::Tidy;
 use connection_rules::Least;
-use event_loop::Node;
+use event_loop::TcpNode;
 use found_host::OpenFault;
 use http_wire::Sink;
 use node_process::{Process, Start, Stop, Surroundings, Teller};
@@ -17,6 +17,9 @@ use std::time::{Clock, Duration};
 /// How many milliseconds pass between two looks at what is to be told and at the signals.
 const TICK: u64 = 250;
 
+/// How many workers are asked for one descriptor at most. Eight nodes have 80.
+const MOST_ASKED: u32 = 128;
+
 /// How many seconds what goes on has once the program is asked to end.
 pub(crate) const DRAIN_SECONDS: u64 = 10;
 
@@ -24,8 +27,8 @@ pub(crate) const DRAIN_SECONDS: u64 = 10;
 #[derive(Drop)]
 pub(crate) struct Overseen<'a, G, N: Drop, M: Drop> {
     pub(crate) groups: &'a [G],
-    pub(crate) nodes: &'a [Node<N>],
-    pub(crate) peers: &'a [Node<M>],
+    pub(crate) nodes: &'a [TcpNode<N>],
+    pub(crate) peers: &'a [TcpNode<M>],
     pub(crate) ports: &'a [Ports],
     pub(crate) stop: &'a Stop,
     pub(crate) notices: &'a Arc<Notices>,
@@ -34,7 +37,7 @@ pub(crate) struct Overseen<'a, G, N: Drop, M: Drop> {
 impl<'a, G, N: Drop, M: Drop> Overseen<'a, G, N, M> {
     /// The nodes that these threads work for, at these ports.
     pub(crate) fn new<R, A, B, P, Q, T>(
-        shared: &Shared<'a, R, A, B, G, Node<N>, Node<M>>,
+        shared: &Shared<'a, R, A, B, G, TcpNode<N>, TcpNode<M>>,
         ports: &'a [Ports],
         around: &Surroundings<'a, R, P, Q, T>,
     ) -> Overseen<'a, G, N, M> {
@@ -75,19 +78,25 @@ impl<G: Tidy, N: Drop, M: Drop> Overseen<'_, G, N, M> {
         }
     }
 
-    /// Gives a descriptor to the threads that lack one: that of the connection that is to go first, of all nodes.
-    fn give<R: Wait>(&self, rt: &R) {
-        let mut least = Least::new();
-        for (number, node) in self.nodes.iter().enumerate() {
-            if let Some(turn) = node.first_to_go() {
-                least.look(number, turn);
+    /// Gives a descriptor to the threads that lack one: that of the connection that is to go first, of all clients and other nodes. A worker's word may be old.
+    /// If it refuses, it says anew, and all are looked at again.
+    fn give<R: Wait + Clock>(&self, rt: &R) {
+        for _ in 0..MOST_ASKED {
+            if self.gives(rt) {
+                break;
             }
         }
-        let chosen = least.found().and_then(|(number, _)| self.nodes.get(number));
-        if let Some(node) = chosen {
-            node.give_up_first(rt);
-        }
         self.stop.gave();
+    }
+
+    /// Asks for the connection that is to go first, as the workers last said. Answers whether it was given, or there is none.
+    fn gives<R: Wait + Clock>(&self, rt: &R) -> bool {
+        match (first_to_go(rt, self.nodes), first_to_go(rt, self.peers)) {
+            (Some((node, turn)), Some((_, other))) if turn <= other => node.give_up_first(rt),
+            (_, Some((node, _))) => node.give_up_first(rt),
+            (Some((node, _)), None) => node.give_up_first(rt),
+            (None, None) => true,
+        }
     }
 
     /// Frees what the nodes keep for nobody.
@@ -150,6 +159,21 @@ impl<G: Tidy, N: Drop, M: Drop> Overseen<'_, G, N, M> {
         self.watch(rt, process, &mut teller);
         opened
     }
+}
+
+/// Of these nodes the one that has the connection which is to go first, and its number among all that may.
+fn first_to_go<'n, R: Wait, N: Drop>(
+    rt: &R,
+    nodes: &'n [TcpNode<N>],
+) -> Option<(&'n TcpNode<N>, u64)> {
+    let mut least = Least::new();
+    for (at, node) in nodes.iter().enumerate() {
+        if let Some(turn) = node.first_to_go(rt) {
+            least.look(at, turn);
+        }
+    }
+    let (at, turn) = least.found()?;
+    Some((nodes.get(at)?, turn))
 }
 
 /// The time in so many seconds, in milliseconds of the clock.

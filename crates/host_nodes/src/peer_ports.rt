@@ -1,11 +1,12 @@
 //! What answers other nodes.
 use connection_rules::Stage;
-use event_loop::{Holding, Interest, Next, NotBegun, Step, Steps};
+use event_loop::{NotBegun, Steps};
 use peer_link::{LocalChunks, PeerConnection, PeerProgress, PeerStage, PeerWants};
 use std::alloc::Global;
 use std::net::TcpStream;
 use std::sync::Wait;
 use tcp_socket::Socket;
+use worker_connections::{Holding, Interest, Next, Step};
 
 /// Answers other nodes from the chunks of a node. Its steps wait for no socket, but a chunk that isn't in the caches is read from the store.
 #[derive(Drop)]
@@ -23,10 +24,12 @@ fn is_local(stream: &TcpStream) -> bool {
 }
 
 impl<R: Wait, C: LocalChunks> Steps for PeerSteps<'_, R, C> {
+    type Socket = TcpStream;
+
     type Connection = PeerConnection;
 
-    fn begin(&mut self, alloc: Global, stream: &TcpStream) -> Result<PeerConnection, NotBegun> {
-        if !is_local(stream) {
+    fn begin(&mut self, alloc: Global, socket: &TcpStream) -> Result<PeerConnection, NotBegun> {
+        if !is_local(socket) {
             return Err(NotBegun::Refused);
         }
         Ok(PeerConnection::new(alloc)?)
@@ -36,9 +39,9 @@ impl<R: Wait, C: LocalChunks> Steps for PeerSteps<'_, R, C> {
         &mut self,
         _alloc: Global,
         connection: &mut PeerConnection,
-        stream: &TcpStream,
+        socket: &TcpStream,
     ) -> Step {
-        let mut socket = Socket::new(stream);
+        let mut socket = Socket::new(socket);
         let progress = connection.go_on(self.rt, &mut socket, self.chunks);
         let stage = connection.stage();
         Step {

@@ -1,19 +1,21 @@
 //! What each node has of its own, and what is to be done there.
-use crate::guests::Noted;
+use crate::guests::NotedBox;
 use crate::lines::Failure;
+use crate::nodes::PEER_THREADS;
 use crate::ports::{Bound, Ports};
 use crate::task_lists::{Task, tasks_of};
 use connection_rules::Limits;
-use event_loop::{Node, NodePlan, ReadySet};
+use event_loop::{Node, NodePlan, TcpNode};
 use operator_notices::Notices;
 use peer_link::PeerConnection;
 use shared_house::DeskVisitor;
 use site_desk::{DeskName, Seat, Seats};
+use socket_sets::ReadySet;
 use std::alloc::{AllocError, Global};
 use std::net::TcpListener;
 use std::sync::{Arc, Mutex};
 
-/// How many connections of other nodes a node has at most.
+/// How many connections of other nodes a node has at most; it has no more of them than of clients.
 const PEER_PLACES: usize = 16;
 
 /// A seat for each node, behind a lock.
@@ -33,25 +35,36 @@ fn seats_of<J: DeskName>(
     Ok(taken)
 }
 
+/// A set of sockets for each worker.
+fn sets_of(alloc: Global, workers: usize) -> Result<Vec<ReadySet>, Failure> {
+    let mut sets = Vec::new(alloc);
+    for _ in 0..workers {
+        let set = ReadySet::new().map_err(|_| Failure::CannotListen)?;
+        sets.push(set).map_err(|_| AllocError)?;
+    }
+    Ok(sets)
+}
+
 /// The nodes of these listeners, which take no client yet.
 fn nodes_of<C: Drop>(
     alloc: Global,
     listeners: Vec<TcpListener>,
+    workers: usize,
     places: usize,
     limits: Limits,
     clients: u64,
     notices: &Arc<Notices>,
-) -> Result<Vec<Node<C>>, Failure> {
+) -> Result<Vec<TcpNode<C>>, Failure> {
     let mut nodes = Vec::new(alloc);
     for listener in listeners {
-        let ready = ReadySet::new().map_err(|_| Failure::CannotListen)?;
+        let sets = sets_of(alloc, workers)?;
         let plan = NodePlan {
             places,
             limits,
             clients,
             notices: Arc::try_clone(notices)?,
         };
-        let node = Node::new(alloc, listener, ready, plan)?;
+        let node = Node::new(alloc, listener, sets, plan)?;
         nodes.push(node).map_err(|_| AllocError)?;
     }
     Ok(nodes)
@@ -78,8 +91,8 @@ pub(crate) struct Staff<J: DeskName> {
 #[derive(Drop)]
 pub(crate) struct Places<J: DeskName> {
     pub(crate) seats: Vec<Mutex<Seat<J>>>,
-    pub(crate) nodes: Vec<Node<Noted<J>>>,
-    pub(crate) peers: Vec<Node<PeerConnection>>,
+    pub(crate) nodes: Vec<TcpNode<NotedBox<J>>>,
+    pub(crate) peers: Vec<TcpNode<PeerConnection>>,
     pub(crate) ports: Vec<Ports>,
 }
 
@@ -96,9 +109,10 @@ fn places_of<J: DeskName>(
         ports,
     } = bound;
     let seats = seats_of(alloc, seats, ports.len())?;
-    let nodes = nodes_of::<Noted<J>>(
+    let nodes = nodes_of::<NotedBox<J>>(
         alloc,
         clients,
+        plan.workers,
         plan.places,
         plan.limits,
         plan.clients,
@@ -107,7 +121,8 @@ fn places_of<J: DeskName>(
     let peers = nodes_of::<PeerConnection>(
         alloc,
         peers,
-        PEER_PLACES,
+        PEER_THREADS,
+        PEER_PLACES.min(plan.places),
         plan.limits,
         u64::MAX,
         &plan.notices,

@@ -1,25 +1,26 @@
 //! What each thread of the nodes does.
 use crate::errands::GuestErrands;
 use crate::groups::HostGroup;
-use crate::guests::{GuestSteps, Noted};
+use crate::guests::{GuestSteps, NotedBox};
 use crate::nodes::{Job, Place, Shared, do_errands, place_at, serve_clients};
 use crate::peer_ports::PeerSteps;
 use crate::task_lists::Task;
 use blob_store::{AbsenceReceipt, PutReceipt, Shelf, ShelfAccess};
 use byte_view::BlobInfo;
 use desk_seats::SeatedDesk;
-use event_loop::Node;
+use event_loop::TcpNode;
 use host_disk::Disk;
 use left_right::Absorb;
 use node_process::Stop;
 use peer_link::PeerConnection;
 use seen_lists::ListName;
 use shared_desk::Desk;
-use shared_house::{CachedFiles, DeskVisitor, Guest, SharedHouse};
+use shared_house::{CachedFiles, DeskVisitor, Guest, Quick, SharedHouse};
 use site_change::Entry;
 use site_desk::{DeskName, Notice, Seat};
+use socket_sets::ReadySet;
 use std::alloc::Global;
-use std::net::{Net, TcpStream};
+use std::net::{Net, TcpListener, TcpStream};
 use std::sync::{Mutex, Wait};
 use std::thread::Threads;
 use std::time::Clock;
@@ -31,8 +32,8 @@ pub(crate) type HostShared<'a, 'g, 'h, J, K, D, S, T, R, Q, U, N> = Shared<
     Desk<J, K, D, S, T, R>,
     Mutex<Seat<J>>,
     HostGroup<'g, 'h, R, S, Q, U, N>,
-    Node<Noted<J>>,
-    Node<PeerConnection>,
+    TcpNode<NotedBox<J>>,
+    TcpNode<PeerConnection>,
 >;
 
 /// What the threads of a node work with.
@@ -40,8 +41,8 @@ type HostPlace<'s, 'g, 'h, J, R, S, Q, U, N> = Place<
     's,
     Mutex<Seat<J>>,
     HostGroup<'g, 'h, R, S, Q, U, N>,
-    Node<Noted<J>>,
-    Node<PeerConnection>,
+    TcpNode<NotedBox<J>>,
+    TcpNode<PeerConnection>,
 >;
 
 /// A worker of a node.
@@ -51,7 +52,10 @@ type HostJob<'a, 'g, 'h, J, K, D, S, T, R, Q, U, N> = Job<
         J,
         SeatedDesk<'a, J, K, D, S, T, R, R, Q, U, N>,
         CachedFiles<'a, R, HostGroup<'g, 'h, R, S, Q, U, N>>,
+        Quick,
     >,
+    TcpListener,
+    ReadySet,
 >;
 
 /// What the threads of all nodes work with, beside their places.
@@ -99,7 +103,7 @@ fn job_of<
     let desk = SeatedDesk::new(rt, desk, access, place.seat, parsing);
     let files = CachedFiles::new(rt, place.group);
     let house = SharedHouse::new(visitor, desk, files).ok()?;
-    let guest = Guest::quick(house);
+    let guest = Guest::new(house, Quick);
     Some(Job {
         node: place.node,
         steps: GuestSteps { guest },
@@ -255,7 +259,11 @@ pub(crate) fn work_on<
 }
 
 /// Ends all of these nodes.
-pub(crate) fn end_all<R: Wait, N: Drop, M: Drop>(rt: &R, nodes: &[Node<N>], peers: &[Node<M>]) {
+pub(crate) fn end_all<R: Wait, N: Drop, M: Drop>(
+    rt: &R,
+    nodes: &[TcpNode<N>],
+    peers: &[TcpNode<M>],
+) {
     for node in nodes {
         node.end_all(rt);
     }

@@ -28,7 +28,7 @@ one_more found entries n e rest is =
 
 -- those that are stored are held
 pub stored_holds : (log : Log) (a b : List ℕ) → IsStored log a b → HoldsEntries log a b
-stored_holds log a b stored = record { writable = stored.writable; holds = shut_held (texts log) a b stored.shut }
+stored_holds log a b stored = record { writable = stored.writable; old = stored.old; holds = shut_held (texts log) a b stored.shut }
 
 -- all were put
 pub all_put : (first second : List ℕ → Type 0) (found : Log) (entries : List Entry) (n : ℕ) → n ≤ length entries → drop n entries ≡ [] → AllStored first second (acknowledged_log found entries n)
@@ -49,6 +49,7 @@ pub left_now : {D : Type 0} (moment : D → ℕ) (left_since : D → ℕ → Lis
     → LeavesNext moment left_since order log entry first second new_first new_second → MayHoldNext order log entry (may_leave new_first) (may_leave new_second)
 left_now moment left_since may_leave counts order log entry first second new_first new_second next = record {
   writable = next.writable;
+  old = next.old;
   one = λ c left. next.leaves.one.each c (counts new_first (moment first) c next.leaves.one.later left);
   other = λ c left. next.leaves.other.each c (counts new_second (moment second) c next.leaves.other.later left);
 }

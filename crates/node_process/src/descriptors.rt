@@ -8,19 +8,25 @@ use std::sync::{Mutex, Wait};
 /// How many descriptors are kept for what all nodes share: the standard streams, the journal, the folder and what the program inherits.
 const RESERVE: u64 = 16;
 
-/// How many are kept for each node: its listeners, its sets, the files of the shelf, and the connections between nodes.
+/// How many are kept for each node: its listeners, the files of the shelf, and the connections between nodes.
 const NODE_RESERVE: u64 = 8;
+
+/// How many are kept for each worker: its set, and what ends the wait on it.
+const WORKER_RESERVE: u64 = 2;
 
 /// How many connections a node has at most, and how many it has at least.
 const MOST: u64 = 1_024;
 
 const LEAST: u64 = 8;
 
-/// How many connections each of so many nodes has, with this limit of descriptors; none if there is no room for the fewest.
-pub fn places_of(limit: u64, nodes: u64) -> Option<usize>
+/// How many connections each of so many nodes with so many workers has, with this limit of descriptors; none if there is no room for the fewest.
+pub fn places_of(limit: u64, nodes: u64, workers: u64) -> Option<usize>
     ensures { IfSome result (λ places. (8 ≤ places) × (places ≤ 1024)) }
 {
-    let reserve = RESERVE.saturating_add(nodes.saturating_mul(NODE_RESERVE));
+    let of_node = workers
+        .saturating_mul(WORKER_RESERVE)
+        .saturating_add(NODE_RESERVE);
+    let reserve = RESERVE.saturating_add(nodes.saturating_mul(of_node));
     let each = limit.saturating_sub(reserve).checked_div(nodes)?;
     if each < LEAST {
         return None;

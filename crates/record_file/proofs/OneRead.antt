@@ -1,13 +1,15 @@
 -- One slot of two is read, and one list of bodies.
-use Rattle.std.proofs.Common.{◌≡◌, ◌⊎◌, ℕ, ◌+◌, ◌≤◌, List, [], ◌∷◌, ◌++◌, length, All, inl, inr, ⊎_elim, sym, ◌∙◌, subst, arith}
-use Rattle.record_file.specs.Frames.{Holds, shut}
-use Rattle.record_file.specs.Pairs.{AreForeign, FoundBoth, HoldBoth, LeftOfFirst, LeftOfSecond, MayLead, Order, Reads, ReadsBad, ReadsRecord, ReadsShut, first, second, neither, read, none}
-use Rattle.record_file.specs.Slots.{HasFront, IsBelow, IsForeign, IsHeader, IsShown}
+use Rattle.std.proofs.Common.{◌≡◌, ◌⊎◌, ℕ, ◌+◌, ◌≤◌, Bool, true, false, cond, List, [], ◌∷◌, ◌++◌, length, All, inl, inr, ⊎_elim, refl, sym, ◌∙◌, ap, subst, arith}
+use Rattle.record_file.specs.declared.slots.Slots.{Slots}
+use Rattle.record_file.specs.Frames.{Holds, IsShut, shut}
+use Rattle.record_file.specs.Pairs.{AreForeign, ArePaired, FoundBoth, FoundLawful, HoldBoth, IsOldOrder, LeftOfFirst, LeftOfSecond, MayLead, Order, Reads, ReadsBad, ReadsOld, ReadsRecord, ReadsShut, first, first_of, second, second_of, neither, read, none}
+use Rattle.record_file.specs.Slots.{HasFront, IsBelow, IsForeign, IsHeader, IsShown, new_header, old_header, version_1, version_2}
 use Rattle.record_file.specs.Walks.{AreLawful, EndsAt, HasRecord, IsBadRecord, IsShort}
 use Rattle.record_file.proofs.LookSteps.{not_below, one_header, opened_front, shown_used}
 use Rattle.record_file.proofs.OneAnswer.{found_no_bad, holds_found, left_holds}
 use Rattle.record_file.proofs.OneWalk.{one_opened}
-use Rattle.record_file.proofs.PairSteps.{bad_front, below_none, lead_front, reads_none}
+use Rattle.record_file.proofs.SlotSteps.{stale_below}
+use Rattle.record_file.proofs.PairSteps.{bad_front, below_none, lead_front, reads_none, turned_reads}
 
 pub ends_front : (bodies : List (List ℕ)) (header file : List ℕ) → (gate : ℕ) × EndsAt header bodies gate file → HasFront header file
 ends_front bodies header file found = opened_front header bodies found.0 found.1.rest file found.1.is
@@ -54,12 +56,23 @@ pub held_one : (xs ys : List (List ℕ)) (one other : List ℕ) → All IsShort 
 held_one xs ys one other few less held too = found_one xs ys one other few less (held_found xs one other held) (held_found ys one other too)
 
 -- two slots that hold few enough bodies have no bad record
-pub found_not_bad : (IsLawful : List (List ℕ) → List ℕ → Type 0) (number : ℕ) (bodies : List (List ℕ)) (one other : List ℕ) → AreLawful IsLawful bodies → length bodies ≤ 1000000 → FoundBoth bodies one other → ReadsBad IsLawful number one other → ⊥
-found_not_bad IsLawful number bodies one other lawful few (read found) bad =
-    reads_both (λ header file. (gate : ℕ) × EndsAt header bodies gate file) (λ header file. IsBadRecord header IsLawful number file) (ends_front bodies) (bad_front IsLawful number) ⊥
-    (λ header file p q. found_no_bad header IsLawful number bodies p.0 file lawful few p.1 q) one other found bad
-found_not_bad IsLawful number bodies one other lawful few (none empty unused unused_too) bad =
-    reads_none (λ header file. IsBadRecord header IsLawful number file) (bad_front IsLawful number) one other unused unused_too bad
+pub found_not_bad : (IsLawful : List ℕ → List (List ℕ) → List ℕ → Type 0) (number : ℕ) (bodies : List (List ℕ)) (one other : List ℕ) → length bodies ≤ 1000000 → FoundLawful IsLawful bodies one other → ReadsBad IsLawful number one other → ⊥
+found_not_bad IsLawful number bodies one other few (read found) bad =
+    reads_both (λ header file. AreLawful (IsLawful header) bodies × ((gate : ℕ) × EndsAt header bodies gate file)) (λ header file. IsBadRecord header (IsLawful header) number file)
+    (λ header file p. ends_front bodies header file p.1) (λ header. bad_front (IsLawful header) number header) ⊥
+    (λ header file p q. found_no_bad header (IsLawful header) number bodies p.1.0 file p.0 few p.1.1 q) one other found bad
+found_not_bad IsLawful number bodies one other few (none empty unused unused_too) bad =
+    reads_none (λ header file. IsBadRecord header (IsLawful header) number file) (λ header. bad_front (IsLawful header) number header) one other unused unused_too bad
+
+-- what is found and lawful is found
+lawful_read : (IsLawful : List ℕ → List (List ℕ) → List ℕ → Type 0) (bodies : List (List ℕ)) (one other : List ℕ) → Reads (λ header file. AreLawful (IsLawful header) bodies × ((gate : ℕ) × EndsAt header bodies gate file)) one other
+    → Reads (λ header file. (gate : ℕ) × EndsAt header bodies gate file) one other
+lawful_read IsLawful bodies one other (first g header is found below) = first g header is found.1 below
+lawful_read IsLawful bodies one other (second g header is found below) = second g header is found.1 below
+
+pub lawful_found : (IsLawful : List ℕ → List (List ℕ) → List ℕ → Type 0) (bodies : List (List ℕ)) (one other : List ℕ) → FoundLawful IsLawful bodies one other → FoundBoth bodies one other
+lawful_found IsLawful bodies one other (read reads) = read (lawful_read IsLawful bodies one other reads)
+lawful_found IsLawful bodies one other (none empty unused unused_too) = none empty unused unused_too
 
 -- and neither is foreign
 below_known : (generation : ℕ) (file : List ℕ) → IsBelow generation file → IsForeign file → ⊥
@@ -96,8 +109,8 @@ known_reads : (P : List ℕ → List ℕ → Type 0) → ((header file : List �
 known_reads P front one other (first g header is p below) foreign = known_both g one other (record { header = header; is_header = is; front = front header one p }) below foreign
 known_reads P front one other (second g header is p below) foreign = known_turned g one other (record { header = header; is_header = is; front = front header other p }) below foreign
 
-pub bad_known : (IsLawful : List (List ℕ) → List ℕ → Type 0) (number : ℕ) (one other : List ℕ) → ReadsBad IsLawful number one other → AreForeign one other → ⊥
-bad_known IsLawful number one other bad foreign = known_reads (λ header file. IsBadRecord header IsLawful number file) (bad_front IsLawful number) one other bad foreign
+pub bad_known : (IsLawful : List ℕ → List (List ℕ) → List ℕ → Type 0) (number : ℕ) (one other : List ℕ) → ReadsBad IsLawful number one other → AreForeign one other → ⊥
+bad_known IsLawful number one other bad foreign = known_reads (λ header file. IsBadRecord header (IsLawful header) number file) (λ header. bad_front (IsLawful header) number header) one other bad foreign
 
 record_front : (header file : List ℕ) → HasRecord header file → HasFront header file
 record_front header file has = record { gate = 1; rest = has.rest; is = has.is }
@@ -127,6 +140,48 @@ module _ (bodies : List (List ℕ)) (body : List ℕ) where
   left_both (second g) one other (inr next) leads = led (g + 1) one other next (under g other leads)
   left_both neither one other unused (inl below) = inl (none unused.0 unused.1 (below_none other below))
   left_both neither one other unused (inr next) = led_turned 1 one other next (inl unused.1)
+
+-- ---- whether the file that is read is of version 1
+
+old_zero : (generation : ℕ) (header : List ℕ) → IsHeader header generation → header ≡ old_header → generation ≡ 0
+old_zero generation header (version_1 is zero_is) old = zero_is
+old_zero generation header (version_2 is one_is) old = absurd (omega (arith, ap length (sym is ∙ old)))
+
+-- only a file of generation 0 is
+pub old_led : (g : ℕ) (one other : List ℕ) → IsShown g one → IsBelow g other → ReadsOld one other → g ≡ 0
+old_led g one other shown below (first h header is p under) = (one_header shown.header header g h one shown.is_header is shown.front p.1).1 ∙ old_zero h header is p.0
+old_led g one other shown below (second h header is p under) =
+    let up = not_below g h one shown under in
+    let down = not_below h g other (record { header = header; is_header = is; front = p.1 }) below in
+    absurd (omega (arith, up, down))
+
+module _ (bodies : List (List ℕ)) (body : List ℕ) where
+  lead_shown : (g : ℕ) (file : List ℕ) → MayLead g bodies body file → IsShown g file
+  lead_shown g file leads = record { header = leads.header; is_header = leads.is_header; front = lead_front g bodies body file leads }
+
+  pub old_left : (order : Order) (one other : List ℕ) → LeftOfFirst order bodies body one → LeftOfSecond order bodies body other → ReadsOld one other → IsOldOrder order
+  old_left (first g) one other leads (inl below) reads = old_led g one other (lead_shown g one leads) below reads
+  old_left (first g) one other leads (inr next) reads =
+      absurd (omega (arith, old_led (g + 1) other one (lead_shown (g + 1) other next) (under bodies body g one leads) (turned_reads _ one other reads)))
+  old_left (second g) one other (inl below) leads reads = old_led g other one (lead_shown g other leads) below (turned_reads _ one other reads)
+  old_left (second g) one other (inr next) leads reads =
+      absurd (omega (arith, old_led (g + 1) one other (lead_shown (g + 1) one next) (under bodies body g other leads) reads))
+  old_left neither one other unused (inl below) reads =
+      absurd (reads_none (λ header file. (header ≡ old_header) × HasFront header file) (λ header file p. p.1) one other unused.1 (below_none other below) reads)
+  old_left neither one other unused (inr next) reads =
+      absurd (omega (arith, old_led 1 other one (lead_shown 1 other next) (inl unused.1) (turned_reads _ one other reads)))
+
+-- it isn't of two slots that are open
+module _ {D : Type 0} (may_leave : D → List ℕ → Type 0) (slots : Slots D) (bodies : List (List ℕ)) where
+  pub paired_new : ArePaired may_leave slots bodies → (a b : List ℕ) → may_leave (first_of slots) a → may_leave (second_of slots) b → ReadsOld a b → ⊥
+  paired_new paired = by_turn slots.turned
+    where
+      shown_new : (file : List ℕ) → IsShut new_header bodies file → IsShown 1 file
+      shown_new file s = record { header = new_header; is_header = version_2 refl refl; front = opened_front new_header bodies 0 s.rest file s.is }
+
+      by_turn : (turned : Bool) → (a b : List ℕ) → may_leave (cond turned slots.other slots.records.disk) a → may_leave (cond turned slots.records.disk slots.other) b → ReadsOld a b → ⊥
+      by_turn false a b here there reads = omega (arith, old_led 1 a b (shown_new a (paired.settled.shut a here)) (stale_below 1 b (paired.stale b there)) reads)
+      by_turn true a b here there reads = omega (arith, old_led 1 b a (shown_new b (paired.settled.shut b there)) (stale_below 1 a (paired.stale a here)) (turned_reads _ a b reads))
 
 -- what is read with a gate of 0 behind it is held
 pub shut_held : (bodies : List (List ℕ)) (one other : List ℕ) → ReadsShut bodies one other → HoldBoth bodies one other

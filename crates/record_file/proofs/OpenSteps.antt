@@ -21,29 +21,29 @@ module _ (header : List ℕ) where
     half_stays body behind spelled c (inl some) = any_gate header bodies body some.some c (record { rest = behind; is = some.is ∙ ap (λ (l : List ℕ). opened header bodies ++ some.some ∷ l) spelled })
     half_stays body behind spelled c (inr cut) = before (record { rest = cut.rest; is = cut.is })
 
-  module _ (IsLawful : List (List ℕ) → List ℕ → Type 0) (had : List (List ℕ)) (body : List ℕ) (put : MayBePut IsLawful had body) (taken : List (List ℕ)) (lawful : AreLawful IsLawful taken) (gate : ℕ) (rest file : List ℕ) (closed : gate ≢ 1) (is : file ≡ opened header taken ++ gate ∷ rest) where
+  module _ (had : List (List ℕ)) (body : List ℕ) (put : MayBePut had body) (taken : List (List ℕ)) (few : All IsShort taken) (gate : ℕ) (rest file : List ℕ) (closed : gate ≢ 1) (is : file ≡ opened header taken ++ gate ∷ rest) where
     more_short : All IsShort (had ++ body ∷ [])
-    more_short = All-push IsShort had body (are_short IsLawful had put.lawful) put.short
+    more_short = All-push IsShort had body put.all put.short
 
     -- what is there while the end of the records is mended
     pub mending_holds : MayHold header had body file → (c : List ℕ) → IsMending (opened header taken) gate rest c → MayHold header had body c
     mending_holds (before shut) c left =
-        let same = one_opened header taken had gate 0 rest shut.rest (are_short IsLawful taken lawful) (are_short IsLawful had put.lawful) closed (λ e. omega (arith, e)) (sym is ∙ shut.is) in
+        let same = one_opened header taken had gate 0 rest shut.rest few put.all closed (λ e. omega (arith, e)) (sym is ∙ shut.is) in
         let gate_is : gate ≡ 0 = ap (λ (l : List ℕ). get_or l 0 0) same.1 in
         before (subst (λ (l : List (List ℕ)). IsShut header l c) same.0 (shut_stays taken gate rest gate_is c left))
     mending_holds (between half) c left =
-        let same = one_opened header taken had gate half.gate rest (framed body ++ 0 ∷ half.rest) (are_short IsLawful taken lawful) (are_short IsLawful had put.lawful) closed (λ e. omega (arith, e, half.neither)) (sym is ∙ half.is) in
+        let same = one_opened header taken had gate half.gate rest (framed body ++ 0 ∷ half.rest) few put.all closed (λ e. omega (arith, e, half.neither)) (sym is ∙ half.is) in
         subst (λ (l : List (List ℕ)). MayHold header l body c) same.0 (half_stays taken gate rest body half.rest (ap (drop 1) same.1) c left)
     mending_holds (after shut) c left =
-        let same = one_opened header taken (had ++ body ∷ []) gate 0 rest shut.rest (are_short IsLawful taken lawful) more_short closed (λ e. omega (arith, e)) (sym is ∙ shut.is) in
+        let same = one_opened header taken (had ++ body ∷ []) gate 0 rest shut.rest few more_short closed (λ e. omega (arith, e)) (sym is ∙ shut.is) in
         let gate_is : gate ≡ 0 = ap (λ (l : List ℕ). get_or l 0 0) same.1 in
         after (subst (λ (l : List (List ℕ)). IsShut header l c) same.0 (shut_stays taken gate rest gate_is c left))
 
     -- which bodies those before the end are
     pub taken_is : MayHold header had body file → (taken ≡ had) ⊎ (taken ≡ had ++ body ∷ [])
     taken_is (before shut) =
-        inl (one_opened header taken had gate 0 rest shut.rest (are_short IsLawful taken lawful) (are_short IsLawful had put.lawful) closed (λ e. omega (arith, e)) (sym is ∙ shut.is)).0
+        inl (one_opened header taken had gate 0 rest shut.rest few put.all closed (λ e. omega (arith, e)) (sym is ∙ shut.is)).0
     taken_is (between half) =
-        inl (one_opened header taken had gate half.gate rest (framed body ++ 0 ∷ half.rest) (are_short IsLawful taken lawful) (are_short IsLawful had put.lawful) closed (λ e. omega (arith, e, half.neither)) (sym is ∙ half.is)).0
+        inl (one_opened header taken had gate half.gate rest (framed body ++ 0 ∷ half.rest) few put.all closed (λ e. omega (arith, e, half.neither)) (sym is ∙ half.is)).0
     taken_is (after shut) =
-        inr (one_opened header taken (had ++ body ∷ []) gate 0 rest shut.rest (are_short IsLawful taken lawful) more_short closed (λ e. omega (arith, e)) (sym is ∙ shut.is)).0
+        inr (one_opened header taken (had ++ body ∷ []) gate 0 rest shut.rest few more_short closed (λ e. omega (arith, e)) (sym is ∙ shut.is)).0

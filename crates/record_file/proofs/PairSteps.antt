@@ -12,7 +12,7 @@ use Rattle.record_file.specs.declared.positions.Position.{Position}
 use Rattle.record_file.specs.declared.slots.Slots.{Slots}
 use Rattle.record_file.specs.declared.surveys.Found.{Found}
 use Rattle.record_file.specs.Slots.{HasFront, IsBelow, IsForeign, IsHeader, IsInUse, IsReplacing, IsShown, IsStale, IsSurveyed, generation_of, header_of, new_header, old_header, older, version_1, version_2}
-use Rattle.record_file.specs.Pairs.{AreForeign, ArePaired, AreRefused, AreSurveyed, BothLeave, FoundBoth, HasOpened, IsMade, ReadsShut, first_of, second_of, IsBeside, IsReady, LeftOfFirst, LeftOfSecond, MayFollow, MayLead, Order, Reads, first, second, neither, read, none, kept, unused, brought, is_moved, order_of}
+use Rattle.record_file.specs.Pairs.{AreForeign, ArePaired, AreRefused, AreSurveyed, BothLeave, FoundBoth, FoundLawful, HasOpened, IsMade, ReadsShut, first_of, second_of, IsBeside, IsReady, LeftOfFirst, LeftOfSecond, MayFollow, MayLead, Order, Reads, first, second, neither, read, none, kept, unused, brought, is_moved, order_of}
 use Rattle.record_file.specs.Walks.{IsBadRecord, IsOnlyRead, TellsEither}
 use Rattle.record_file.proofs.Brought.{leads}
 use Rattle.record_file.proofs.SlotSteps.{stale_below}
@@ -103,6 +103,10 @@ pub turned_found : (bodies : List (List ℕ)) (a b : List ℕ) → FoundBoth bod
 turned_found bodies a b (read reads) = read (turned_reads _ a b reads)
 turned_found bodies a b (none empty one other) = none empty other one
 
+turned_lawful : (IsLawful : List ℕ → List (List ℕ) → List ℕ → Type 0) (bodies : List (List ℕ)) (a b : List ℕ) → FoundLawful IsLawful bodies a b → FoundLawful IsLawful bodies b a
+turned_lawful IsLawful bodies a b (read reads) = read (turned_reads _ a b reads)
+turned_lawful IsLawful bodies a b (none empty one other) = none empty other one
+
 pub turned_foreign : (a b : List ℕ) → AreForeign a b → AreForeign b a
 turned_foreign a b (inl one) = inr (inl one)
 turned_foreign a b (inr (inl other)) = inl other
@@ -141,11 +145,11 @@ surveyed_same version one other a b is less how how_too (inr (inr both)) =
     omega (arith, down, same.1)
 
 -- two slots of which neither is in use are no reason to refuse them
-pub neither_refused : (IsLawful : List (List ℕ) → List ℕ → Type 0) (a b : List ℕ) → (IsInUse a → ⊥) → (IsInUse b → ⊥) → AreRefused IsLawful a b → ⊥
+pub neither_refused : (IsLawful : List ℕ → List (List ℕ) → List ℕ → Type 0) (a b : List ℕ) → (IsInUse a → ⊥) → (IsInUse b → ⊥) → AreRefused IsLawful a b → ⊥
 neither_refused IsLawful a b one other (inl (inl foreign)) = one foreign.used
 neither_refused IsLawful a b one other (inl (inr (inl foreign))) = other foreign.used
 neither_refused IsLawful a b one other (inl (inr (inr both))) = one (shown_used both.0 a both.1)
-neither_refused IsLawful a b one other (inr bad) = reads_none (λ header file. IsBadRecord header IsLawful bad.0 file) (bad_front IsLawful bad.0) a b one other bad.1
+neither_refused IsLawful a b one other (inr bad) = reads_none (λ header file. IsBadRecord header (IsLawful header) bad.0 file) (λ header. bad_front (IsLawful header) bad.0 header) a b one other bad.1
 
 -- a file with the old header is of the old version
 pub old_version : (version : Version) (file : List ℕ) → HasFront (header_of version) file → HasFront old_header file → version ≡ Old
@@ -153,13 +157,12 @@ old_version Old file here front = refl
 old_version Current file here front = absurd (not_both file front here)
 
 -- what was opened with the second slot leading
-module _ (Has : List (List ℕ) → Type 0) (IsLawful : List (List ℕ) → List ℕ → Type 0) (gate count : ℕ) (one other : List ℕ) where
+module _ (Has : List (List ℕ) → Type 0) (IsLawful : List ℕ → List (List ℕ) → List ℕ → Type 0) (gate count : ℕ) (one other : List ℕ) where
   opened_so : (seen : List ℕ) (images beside : List ℕ → Type 0) → HasOpened Has IsLawful gate count one other seen images beside → HasOpened Has IsLawful gate count other one seen images beside
   opened_so seen images beside opened = record {
     bodies = opened.bodies;
     has = opened.has;
-    lawful = opened.lawful;
-    found = turned_found opened.bodies one other opened.found;
+    found = turned_lawful IsLawful opened.bodies one other opened.found;
     made = opened.made;
   }
 

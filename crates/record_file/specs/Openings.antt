@@ -1,7 +1,7 @@
 -- What the opening of a file of records finds and leaves.
-use Rattle.std.specs.Prelude.{◌≡◌, ◌⊎◌, ℕ, List, ◌∷◌, ◌++◌}
+use Rattle.std.specs.Prelude.{◌≡◌, ◌⊎◌, ℕ, List, ◌∷◌, ◌++◌, All}
 use Rattle.host_disk.specs.Crashes.{Only}
-use Rattle.record_file.specs.Walks.{AreLawful, IsShort}
+use Rattle.record_file.specs.Walks.{IsShort}
 
 -- the disk reads as this file, and a crash leaves nothing else
 pub record IsExactly (file seen : List ℕ) (images : List ℕ → Type 0) : Type 0 where
@@ -23,8 +23,7 @@ pub record HasShut (front file : List ℕ) : Type 0 where
 abbrev pub IsMending : List ℕ → ℕ → List ℕ → List ℕ → Type 0
 IsMending front gate rest file = HasSomeGate front gate rest file ⊎ HasShut front file
 
--- bodies that records may have, and one more
-pub record MayBePut (IsLawful : List (List ℕ) → List ℕ → Type 0) (bodies : List (List ℕ)) (body : List ℕ) : Type 0 where
-  pub lawful : AreLawful IsLawful bodies
+-- bodies that are as short as those of records, and one more
+pub record MayBePut (bodies : List (List ℕ)) (body : List ℕ) : Type 0 where
+  pub all : All IsShort bodies
   pub short : IsShort body
-  pub is_lawful : IsLawful bodies body

@@ -10,7 +10,7 @@ use Rattle.record_file.specs.declared.surveys.Found.{Found}
 use Rattle.record_file.specs.Frames.{Holds, IsShut, MayHold, opened}
 use Rattle.record_file.specs.Openings.{IsExactly}
 use Rattle.record_file.specs.Settled.{IsSettled}
-use Rattle.record_file.specs.Slots.{AllStale, HasFront, IsBelow, IsForeign, IsHeader, IsInUse, IsShown, IsSurveyed, generation_of, header_of, new_header}
+use Rattle.record_file.specs.Slots.{AllStale, HasFront, IsBelow, IsForeign, IsHeader, IsInUse, IsShown, IsSurveyed, generation_of, header_of, new_header, old_header}
 use Rattle.record_file.specs.Walks.{AreLawful, EndsAt, HasRecord, IsBadRecord, IsOnlyRead}
 
 -- One of two files is read: it has a header of some generation, and the other isn't in use, or has a lesser one. P is so of that header and of it.
@@ -31,6 +31,10 @@ HoldBoth bodies one other = ReadsOrNone (λ header file. Holds header bodies fil
 abbrev pub FoundBoth : List (List ℕ) → List ℕ → List ℕ → Type 0
 FoundBoth bodies one other = ReadsOrNone (λ header file. (gate : ℕ) × EndsAt header bodies gate file) bodies one other
 
+-- and all of them are lawful in a file with the header that it has
+abbrev pub FoundLawful : (List ℕ → List (List ℕ) → List ℕ → Type 0) → List (List ℕ) → List ℕ → List ℕ → Type 0
+FoundLawful IsLawful bodies one other = ReadsOrNone (λ header file. AreLawful (IsLawful header) bodies × ((gate : ℕ) × EndsAt header bodies gate file)) bodies one other
+
 -- these bodies are read, with a gate of 0 behind them
 abbrev pub ReadsShut : List (List ℕ) → List ℕ → List ℕ → Type 0
 ReadsShut bodies one other = Reads (λ header file. IsShut header bodies file) one other
@@ -40,12 +44,16 @@ abbrev pub AreForeign : List ℕ → List ℕ → Type 0
 AreForeign one other = IsForeign one ⊎ (IsForeign other ⊎ ((generation : ℕ) × IsShown generation one × IsShown generation other))
 
 -- the record with this number of the file that is read is its first bad one
-abbrev pub ReadsBad : (List (List ℕ) → List ℕ → Type 0) → ℕ → List ℕ → List ℕ → Type 0
-ReadsBad IsLawful number one other = Reads (λ header file. IsBadRecord header IsLawful number file) one other
+abbrev pub ReadsBad : (List ℕ → List (List ℕ) → List ℕ → Type 0) → ℕ → List ℕ → List ℕ → Type 0
+ReadsBad IsLawful number one other = Reads (λ header file. IsBadRecord header (IsLawful header) number file) one other
 
 -- two slots must not be opened
-abbrev pub AreRefused : (List (List ℕ) → List ℕ → Type 0) → List ℕ → List ℕ → Type 0
+abbrev pub AreRefused : (List ℕ → List (List ℕ) → List ℕ → Type 0) → List ℕ → List ℕ → Type 0
 AreRefused IsLawful one other = AreForeign one other ⊎ ((number : ℕ) × ReadsBad IsLawful number one other)
+
+-- the file that is read is of version 1
+abbrev pub ReadsOld : List ℕ → List ℕ → Type 0
+ReadsOld one other = Reads (λ header file. (header ≡ old_header) × HasFront header file) one other
 
 -- the file that is read has an open gate behind its header
 abbrev pub ReadsRecord : List ℕ → List ℕ → Type 0
@@ -58,6 +66,12 @@ pub data Order : Type 0 where
   first : ℕ → Order
   second : ℕ → Order
   neither : Order
+
+-- the file that is read until then is of version 1, whose generation is 0
+abbrev pub IsOldOrder : Order → Type 0
+IsOldOrder (first generation) = generation ≡ 0
+IsOldOrder (second generation) = generation ≡ 0
+IsOldOrder neither = ⊥
 
 -- a file of this generation, while one more body is put behind these, or while it is opened
 pub record MayLead (generation : ℕ) (bodies : List (List ℕ)) (body file : List ℕ) : Type 0 where
@@ -119,11 +133,10 @@ pub record IsMade (bodies : List (List ℕ)) (gate count : ℕ) (seen : List ℕ
   pub stale : AllStale 1 beside
 
 -- two slots were opened: the bodies that were found, all of them lawful, were handed on, and one slot has them
-pub record HasOpened (Has : List (List ℕ) → Type 0) (IsLawful : List (List ℕ) → List ℕ → Type 0) (gate count : ℕ) (one other seen : List ℕ) (images beside : List ℕ → Type 0) : Type 0 where
+pub record HasOpened (Has : List (List ℕ) → Type 0) (IsLawful : List ℕ → List (List ℕ) → List ℕ → Type 0) (gate count : ℕ) (one other seen : List ℕ) (images beside : List ℕ → Type 0) : Type 0 where
   pub bodies : List (List ℕ)
   pub has : Has bodies
-  pub lawful : AreLawful IsLawful bodies
-  pub found : FoundBoth bodies one other
+  pub found : FoundLawful IsLawful bodies one other
   pub made : IsMade bodies gate count seen images beside
 
 -- ---- what private functions say

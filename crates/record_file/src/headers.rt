@@ -59,6 +59,14 @@ fn is_same(bytes: &[u8], others: &[u8]) -> bool
     bytes == others
 }
 
+/// Whether this is the header of a file of version 1.
+pub fn is_old_header(header: &[u8]) -> bool
+    ensures old { IsTrue result → header.now ≡ old_header }
+    ensures later { result ≡ false → header.now ≡ old_header → ⊥ }
+{
+    is_same(header, &OLD_HEADER)
+}
+
 /// Whether the header follows the gate of a file.
 fn has_header<D: Disk>(disk: &mut D, header: &[u8]) -> Result<bool, DeviceFault>
     requires { length header.now ≤ 64 }

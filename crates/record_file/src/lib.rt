@@ -26,6 +26,7 @@ mod walks;
 pub use bodies::{Bodies, BodyFault};
 pub use faults::OpenFault;
 pub use frames::framed_body;
+pub use headers::is_old_header;
 pub use losses::{Looked, Loss, Losses, look_ahead};
 pub use pairs::{Opened, Opening, open_ahead};
 pub use positions::Position;

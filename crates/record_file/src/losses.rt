@@ -6,9 +6,10 @@ ghost use Rattle.record_file.specs.Walks.{IsOnlyRead};
 
 use crate::bodies::Bodies;
 use crate::faults::OpenFault;
-use crate::headers::{Version, read_version};
+use crate::headers::{HEADER, OLD_HEADER, Version, read_version};
 use crate::leaders::{Leader, choose};
 use crate::openings::walk_version;
+use crate::positions::Position;
 use crate::read_ahead::ReadAhead;
 use crate::remnants::{count_whole, may_be_unfinished, skip_records};
 use crate::surveys::{Found, survey_measured};
@@ -41,6 +42,24 @@ pub struct Looked<D> {
     pub outcome: Result<Losses, OpenFault>,
 }
 
+/// How many whole records follow one another from a position on, as those of a file of this version.
+fn count_of_version<D: Disk, B: Bodies>(
+    alloc: Global,
+    disk: &mut D,
+    version: Version,
+    from: Position,
+    size: usize,
+    bodies: &mut B,
+) -> Result<usize, OpenFault>
+    requires { from.gate < size }
+    ensures same { IsTrue D.is_modelled → IsOnlyRead D.seen D.may_leave D.moment D.left_since disk.old disk.new }
+{
+    match version {
+        Version::Old => count_whole(alloc, disk, &OLD_HEADER, from, size, bodies),
+        Version::Current => count_whole(alloc, disk, &HEADER, from, size, bodies),
+    }
+}
+
 /// How many whole records follow the header that is behind the first byte of a slot of this size, if that is one.
 fn count_behind_header<D: Disk, B: Bodies>(
     alloc: Global,
@@ -51,7 +70,7 @@ fn count_behind_header<D: Disk, B: Bodies>(
     ensures same { IsTrue D.is_modelled → IsOnlyRead D.seen D.may_leave D.moment D.left_since disk.old disk.new }
 {
     match read_version(disk, size) {
-        Ok(version) => count_whole(alloc, disk, version.start(), size, bodies),
+        Ok(version) => count_of_version(alloc, disk, version, version.start(), size, bodies),
         Err(OpenFault::BadHeader) => Ok(0),
         Err(fault) => Err(fault),
     }
@@ -92,7 +111,7 @@ fn look_read<D: Disk, B: Bodies>(
     if may_be_unfinished(disk, end.gate, size)? {
         return Ok(None);
     }
-    let records = count_whole(alloc, disk, end, size, bodies)?;
+    let records = count_of_version(alloc, disk, version, end, size, bodies)?;
     Ok(Some(Loss {
         from: end.gate + 1,
         bytes: size - end.gate - 1,

@@ -30,14 +30,14 @@ pub(crate) fn walk_version<D: Disk, B: Bodies>(
 ) -> Result<End, OpenFault>
     requires { length (header_of version) + 1 < size }
     ensures end { IsTrue D.is_modelled → size ≡ length (D.seen disk.old) → IsOpened (header_of version) (D.seen disk.old)
-        → B.has bodies.old [] → IfOk result (λ end. HasEnded (header_of version) (B.has bodies.new) B.is_lawful
+        → B.has bodies.old [] → IfOk result (λ end. HasEnded (header_of version) (B.has bodies.new) (B.is_lawful (header_of version))
         end.position.gate end.position.count end.gate (D.seen disk.old)) }
     ensures count { B.has bodies.old [] → IfOk result (λ end. HasCounted (B.has bodies.new) end.position.count) }
     ensures far { IfOk result (λ end. length (header_of version) < end.position.gate) }
     ensures near { IfOk result (λ end. end.position.gate ≤ length (header_of version) + 1 + 10470075 * end.position.count) }
     ensures bad { IsTrue D.is_modelled → size ≡ length (D.seen disk.old) → IsOpened (header_of version) (D.seen disk.old)
         → B.has bodies.old [] → IfErr result (λ fault. (i : ℕ) → fault ≡ BadRecord i
-        → IsBadRecord (header_of version) B.is_lawful i (D.seen disk.old)) }
+        → IsBadRecord (header_of version) (B.is_lawful (header_of version)) i (D.seen disk.old)) }
     ensures same { IsTrue D.is_modelled → IsOnlyRead D.seen D.may_leave D.moment D.left_since disk.old disk.new }
     ensures header { IsErrOf result BadHeader → ⊥ }
     ensures memory { IsTrue D.is_modelled → IsOpened (header_of version) (D.seen disk.old) → B.has bodies.old []
@@ -73,25 +73,25 @@ pub(crate) fn open_read<D: Disk, B: Bodies>(
     ensures count { B.has bodies.old [] → IfOk result (λ position. HasCounted (B.has bodies.new) position.count) }
     ensures bad { IsTrue D.is_modelled → IsReady D.seen D.may_leave version size beside read.old other.old
         → B.has bodies.old [] → IfErr result (λ fault. (i : ℕ) → fault ≡ BadRecord i
-        → IsBadRecord (header_of version) B.is_lawful i (D.seen read.old)) }
+        → IsBadRecord (header_of version) (B.is_lawful (header_of version)) i (D.seen read.old)) }
     ensures header { IsErrOf result BadHeader → ⊥ }
     ensures unwritten { IsTrue D.is_modelled → IfErr result (λ fault. (fault ≡ Device → ⊥)
         → BothOnlyRead D.seen D.may_leave D.moment D.left_since read.old other.old read.new other.new) }
     ensures refused { IsTrue D.is_modelled → IsReady D.seen D.may_leave version size beside read.old other.old
-        → B.has bodies.old [] → IsBadFile (header_of version) B.is_lawful (D.seen read.old)
+        → B.has bodies.old [] → IsBadFile (header_of version) (B.is_lawful (header_of version)) (D.seen read.old)
         → BothOnlyRead D.seen D.may_leave D.moment D.left_since read.old other.old read.new other.new }
     ensures any_moment { IsTrue D.is_modelled → IsReady D.seen D.may_leave version size beside read.old other.old
-        → B.has bodies.old [] → (had : List (List ℕ)) (body : List ℕ) → MayBePut B.is_lawful had body
+        → B.has bodies.old [] → (had : List (List ℕ)) (body : List ℕ) → MayBePut had body
         → MayHold (header_of version) had body (D.seen read.old)
         → LeavesOnly D.moment D.left_since read.old read.new (MayHold (header_of version) had body) }
     ensures any_moment_beside { IsTrue D.is_modelled → IsReady D.seen D.may_leave version size beside read.old other.old
-        → B.has bodies.old [] → (had : List (List ℕ)) (body : List ℕ) → MayBePut B.is_lawful had body
+        → B.has bodies.old [] → (had : List (List ℕ)) (body : List ℕ) → MayBePut had body
         → MayHold (header_of version) had body (D.seen read.old)
         → LeavesOnly D.moment D.left_since other.old other.new (IsBeside version (MayLead 1 had body) (D.seen other.old)) }
     ensures memory { IsTrue D.is_modelled → IsReady D.seen D.may_leave version size beside read.old other.old
         → B.has bodies.old [] → IsErrOf result OutOfMemory → HasRecord (header_of version) (D.seen read.old) }
     ensures reason { IsTrue D.is_modelled → IsReady D.seen D.may_leave version size beside read.old other.old
-        → B.has bodies.old [] → IsBadFile (header_of version) B.is_lawful (D.seen read.old) → IsErrOf result Device
+        → B.has bodies.old [] → IsBadFile (header_of version) (B.is_lawful (header_of version)) (D.seen read.old) → IsErrOf result Device
         → MayFailReading D.seen D.may_fail (D.seen read.old) }
     ensures old { IsTrue D.is_modelled → version ≡ Old
         → IsOnlyRead D.seen D.may_leave D.moment D.left_since read.old read.new }

@@ -88,7 +88,7 @@ fn open_led<D: Disk, B: Bodies>(
         → AreRefused B.is_lawful (D.seen first.old) (D.seen second.old)
         → BothOnlyRead D.seen D.may_leave D.moment D.left_since first.old second.old first.new second.new }
     ensures any_moment { IsTrue D.is_modelled → AreSurveyed D.seen D.may_leave one other first.old second.old → B.has bodies.old [] → (order : Order)
-        (had : List (List ℕ)) (body : List ℕ) → MayBePut B.is_lawful had body → LeftOfFirst order had body (D.seen first.old)
+        (had : List (List ℕ)) (body : List ℕ) → MayBePut had body → LeftOfFirst order had body (D.seen first.old)
         → LeftOfSecond order had body (D.seen second.old)
         → BothLeave D.moment D.left_since order had body first.old second.old first.new second.new }
     ensures memory { IsTrue D.is_modelled → AreSurveyed D.seen D.may_leave one other first.old second.old → B.has bodies.old [] → IsErrOf result OutOfMemory
@@ -135,7 +135,7 @@ fn open_both<D: Disk, B: Bodies>(
         → AreRefused B.is_lawful (D.seen first.old) (D.seen second.old)
         → BothOnlyRead D.seen D.may_leave D.moment D.left_since first.old second.old first.new second.new }
     ensures any_moment { IsTrue D.is_modelled → B.has bodies.old [] → (order : Order) (had : List (List ℕ))
-        (body : List ℕ) → MayBePut B.is_lawful had body
+        (body : List ℕ) → MayBePut had body
         → ((c : List ℕ) → D.may_leave first.old c → LeftOfFirst order had body c)
         → ((c : List ℕ) → D.may_leave second.old c → LeftOfSecond order had body c)
         → BothLeave D.moment D.left_since order had body first.old second.old first.new second.new }
@@ -181,7 +181,7 @@ pub fn open_ahead<D: Disk, B: Bodies>(
         → AreRefused B.is_lawful (D.seen first) (D.seen second)
         → BothOnlyRead D.seen D.may_leave D.moment D.left_since first second result.first result.second }
     ensures any_moment { IsTrue D.is_modelled → B.has bodies.old [] → (order : Order) (had : List (List ℕ))
-        (body : List ℕ) → MayBePut B.is_lawful had body
+        (body : List ℕ) → MayBePut had body
         → ((c : List ℕ) → D.may_leave first c → LeftOfFirst order had body c)
         → ((c : List ℕ) → D.may_leave second c → LeftOfSecond order had body c)
         → BothLeave D.moment D.left_since order had body first second result.first result.second }

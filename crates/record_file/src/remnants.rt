@@ -75,6 +75,7 @@ pub(crate) fn may_be_unfinished<D: Disk>(
 /// Reads the record behind the gate at a position, whatever that gate is, and hands on its body.
 fn take_record<D: Disk, B: Bodies>(
     disk: &mut D,
+    header: &[u8],
     size: usize,
     position: Position,
     body: &mut Vec<u8>,
@@ -87,13 +88,14 @@ fn take_record<D: Disk, B: Bodies>(
     ensures few { OnOk result (position.count < 1000000) }
 {
     read_record(disk, size, position, body)?;
-    take_body(bodies, body, position)
+    take_body(bodies, header, body, position)
 }
 
-/// How many whole records with lawful bodies follow one another from a position on, whatever the gates before them are.
+/// How many whole records follow one another from a position on, with bodies that are lawful in a file with this header, whatever the gates before them are.
 pub(crate) fn count_whole<D: Disk, B: Bodies>(
     alloc: Global,
     disk: &mut D,
+    header: &[u8],
     from: Position,
     size: usize,
     bodies: &mut B,
@@ -104,7 +106,7 @@ pub(crate) fn count_whole<D: Disk, B: Bodies>(
     let mut body = Vec::new(alloc);
     let mut position = from;
     loop {
-        match take_record(disk, size, position, &mut body, bodies) {
+        match take_record(disk, header, size, position, &mut body, bodies) {
             Ok(()) => position = position.after(body.len()),
             Err(OpenFault::BadRecord(_)) => return Ok(position.count - from.count),
             Err(fault) => return Err(fault),

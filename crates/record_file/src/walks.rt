@@ -132,22 +132,23 @@ pub(crate) fn read_record<D: Disk>(
     read_body(disk, position.gate + 5, length, body)
 }
 
-/// Hands on the body that was read after the gate at a position.
+/// Hands on the body that was read after the gate at a position of a file with this header.
 pub(crate) fn take_body<B: Bodies>(
     bodies: &mut B,
+    header: &[u8],
     body: &[u8],
     position: Position,
 ) -> Result<(), OpenFault>
     ensures taken { (had : List (List ℕ)) → B.has bodies.old had
         → OnOk result (B.has bodies.new (had ++ body.now ∷ [])) }
-    ensures lawful { (had : List (List ℕ)) → B.has bodies.old had → OnOk result (B.is_lawful had body.now) }
+    ensures lawful { (had : List (List ℕ)) → B.has bodies.old had → OnOk result (B.is_lawful header.now had body.now) }
     ensures number { IfErr result (λ fault. (i : ℕ) → fault ≡ BadRecord i → i ≡ position.count + 1) }
     ensures bad { (had : List (List ℕ)) → B.has bodies.old had → IfErr result (λ fault. (i : ℕ) → fault ≡ BadRecord i
-        → B.is_lawful had body.now → ⊥) }
+        → B.is_lawful header.now had body.now → ⊥) }
     ensures header { IsErrOf result BadHeader → ⊥ }
     ensures device { IfErr result (λ fault. fault ≡ Device → ⊥) }
 {
-    bodies.take(body).map_err(|fault| match fault {
+    bodies.take(header, body).map_err(|fault| match fault {
         BodyFault::Bad => position.bad_record(),
         BodyFault::OutOfMemory => OpenFault::OutOfMemory,
     })
@@ -160,9 +161,10 @@ pub(crate) struct End {
     pub gate: u8,
 }
 
-/// Reads the gate at a position. If it is open, reads the body after it and hands that on.
+/// Reads the gate at a position of a file with this header. If it is open, reads the body after it and hands that on.
 fn hand_on<D: Disk, B: Bodies>(
     disk: &mut D,
+    header: &[u8],
     size: usize,
     position: Position,
     body: &mut Vec<u8>,
@@ -178,13 +180,13 @@ fn hand_on<D: Disk, B: Bodies>(
         → B.has bodies.new (had ++ body.new.items ∷ [])) }
     ensures short { IfOk result (λ gate. IsNone gate → IsShort body.new.items) }
     ensures lawful { (had : List (List ℕ)) → B.has bodies.old had
-        → IfOk result (λ gate. IsNone gate → B.is_lawful had body.new.items) }
+        → IfOk result (λ gate. IsNone gate → B.is_lawful header.now had body.new.items) }
     ensures within { IfOk result (λ gate. IsNone gate → position.gate + 5 + length body.new.items < size) }
     ensures few { IfOk result (λ gate. IsNone gate → position.count < 1000000) }
     ensures bad { IsTrue D.is_modelled → size ≡ length (D.seen disk.old) → (had : List (List ℕ)) → B.has bodies.old had
         → IfErr result (λ fault. (i : ℕ) → fault ≡ BadRecord i → (i ≡ position.count + 1)
         × (drop position.gate (D.seen disk.old) ≡ 1 ∷ drop (position.gate + 1) (D.seen disk.old))
-        × (IsNoRecord (B.is_lawful had) (drop (position.gate + 1) (D.seen disk.old)) ⊎ (1000000 ≤ position.count))) }
+        × (IsNoRecord (B.is_lawful header.now had) (drop (position.gate + 1) (D.seen disk.old)) ⊎ (1000000 ≤ position.count))) }
     ensures same { IsTrue D.is_modelled → IsOnlyRead D.seen D.may_leave D.moment D.left_since disk.old disk.new }
     ensures header { IsErrOf result BadHeader → ⊥ }
     ensures memory { IsTrue D.is_modelled → IsErrOf result OutOfMemory → drop position.gate (D.seen disk.old)
@@ -198,7 +200,7 @@ fn hand_on<D: Disk, B: Bodies>(
         return Ok(Some(gate));
     }
     read_record(disk, size, position, body)?;
-    take_body(bodies, body, position)?;
+    take_body(bodies, header, body, position)?;
     Ok(None)
 }
 
@@ -215,14 +217,14 @@ pub(crate) fn walk_records<D: Disk, B: Bodies>(
     ensures end { IsTrue D.is_modelled → size ≡ length (D.seen disk.old) → IsOpened header.now (D.seen disk.old)
         → B.has bodies.old []
         → IfOk result
-        (λ end. HasEnded header.now (B.has bodies.new) B.is_lawful end.position.gate end.position.count end.gate (D.seen disk.old)) }
+        (λ end. HasEnded header.now (B.has bodies.new) (B.is_lawful header.now) end.position.gate end.position.count end.gate (D.seen disk.old)) }
     ensures count { B.has bodies.old [] → IfOk result (λ end. HasCounted (B.has bodies.new) end.position.count) }
     ensures within { IfOk result (λ end. end.position.gate < size) }
     ensures far { IfOk result (λ end. length header.now < end.position.gate) }
     ensures near { IfOk result (λ end. end.position.gate ≤ length header.now + 1 + 10470075 * end.position.count) }
     ensures bad { IsTrue D.is_modelled → size ≡ length (D.seen disk.old) → IsOpened header.now (D.seen disk.old)
         → B.has bodies.old [] → IfErr result (λ fault. (i : ℕ) → fault ≡ BadRecord i
-        → IsBadRecord header.now B.is_lawful i (D.seen disk.old)) }
+        → IsBadRecord header.now (B.is_lawful header.now) i (D.seen disk.old)) }
     ensures same { IsTrue D.is_modelled → IsOnlyRead D.seen D.may_leave D.moment D.left_since disk.old disk.new }
     ensures header { IsErrOf result BadHeader → ⊥ }
     ensures memory { IsTrue D.is_modelled → IsOpened header.now (D.seen disk.old) → B.has bodies.old []
@@ -234,7 +236,7 @@ pub(crate) fn walk_records<D: Disk, B: Bodies>(
     let mut body = Vec::new(alloc);
     let mut position = Position::first(header);
     loop {
-        if let Some(gate) = hand_on(disk, size, position, &mut body, bodies)? {
+        if let Some(gate) = hand_on(disk, header, size, position, &mut body, bodies)? {
             return Ok(End { position, gate });
         }
         position = position.after(body.len());

@@ -72,6 +72,7 @@ module _ {D : Type 0} (disk : Ghosts D) (counts_now : (d : D) (t : ℕ) (c : Lis
                   next.0,
                   subst (λ (l : Log). MayHoldNext next.0 l entry (disk.may_leave new.journal.first) (disk.may_leave new.journal.second)) stands.entries (record {
                     writable = next.1.writable;
+                    old = next.1.old;
                     one = λ c left. leaves.one.each c (counts_now new.journal.first (disk.moment old.journal.first) c modelled leaves.one.later left);
                     other = λ c left. leaves.other.each c (counts_now new.journal.second (disk.moment old.journal.second) c modelled leaves.other.later left);
                   }),
@@ -103,7 +104,7 @@ module _ {D : Type 0} (disk : Ghosts D) (counts_now : (d : D) (t : ℕ) (c : Lis
           let here = only_now old.journal.first a modelled (subst (λ (k : Kept D). disk.left_since k.journal.first (disk.moment old.journal.first) a) same left.0) in
           let there = only_now old.journal.second b modelled (subst (λ (k : Kept D). disk.left_since k.journal.second (disk.moment old.journal.second) b) same left.1) in
           let stored = stands.whole modelled whole a b here there in
-          (log, record { writable = stored.writable; holds = shut_held (texts log) a b stored.shut }, inl refl, stands.legal)
+          (log, record { writable = stored.writable; old = stored.old; holds = shut_held (texts log) a b stored.shut }, inl refl, stands.legal)
 
       pub in_turn : (answer : Result Log (DeskError Log)) → IsTurn disk floor entry why M old answer new → IsTrue disk.is_modelled → (a b : List ℕ) → Since a b → Held a b
       in_turn (Ok receipt) turn modelled a b left = let next = turn.entered.0.moments modelled in either turn.answer.1 next.0 next.1 a b left
@@ -158,7 +159,7 @@ module _ {D : Type 0} (disk : Ghosts D) (counts_now : (d : D) (t : ℕ) (c : Lis
       grown held legal uploads within = (history-grows book.known uploads held within legal).0
 
       by : (broken : Bool) → book.journal.broken ≡ broken → (held : Log) × HoldsEntries held a b × HasAtMostOneMore log held × ((uploads : Contents) → IsWithin book.known uploads → IsLegal uploads held)
-      by false is = let stored = stands.whole modelled is a b here there in (log, record { writable = stored.writable; holds = shut_held (texts log) a b stored.shut }, inl refl, grown log stands.legal)
+      by false is = let stored = stands.whole modelled is a b here there in (log, record { writable = stored.writable; old = stored.old; holds = shut_held (texts log) a b stored.shut }, inl refl, grown log stands.legal)
       by true is =
           let was = stands.torn is in
           let next = was.2 modelled in

@@ -1,5 +1,5 @@
 //! Connections that go from one worker to another, each with a note of what it saw.
-ghost use Rattle.std.specs.Prelude.{◌≡◌, ⊤};
+ghost use Rattle.std.specs.Prelude.{◌≡◌};
 ghost use Rattle.change_log.specs.Logs.{BeginsWith, Log};
 ghost use Rattle.host_connection.specs.Advancing.{Goes, RemembersMemory, TellsBody, phases_left};
 ghost use Rattle.host_connection.specs.Carrying.{AnswersOnce, Carries, Leads};
@@ -11,6 +11,7 @@ ghost use Rattle.shared_house.specs.HouseLaws as houses;
 use crate::answered::Answered;
 use crate::desk_access::DeskAccess;
 use crate::file_access::FileAccess;
+use crate::haste::Haste;
 use crate::houses::{DeskVisitor, SharedHouse};
 use host_answers::answer;
 use host_connection::{Connection, Metered, Progress, Request, Service};
@@ -28,20 +29,20 @@ pub type Note<J> = Front<Entry, J>;
 
 /// A worker's house, and the note of the connection that it answers. Contracts see the log of the note alone, so the worker is no part of what they say.
 ///
-/// A quick guest never waits: it leaves a request for later whose answer may need the desk, or a piece of a file that isn't at hand. A thread that may wait
-/// answers such a request by a guest of its own, over what the quick one saw.
+/// A quick guest leaves a request for later whose answer may need the desk, or a piece of a file that isn't at hand. A thread that may wait answers such a
+/// request by a guest of its own, over what the other one saw.
 #[derive(Drop)]
-pub struct Guest<J: DeskName, D, G> {
+pub struct Guest<J: DeskName, D, G, H> {
     house: SharedHouse<J, D, G>,
     note: Note<J>,
-    is_quick: bool,
+    haste: H,
     // The request that the last step answered, if it answered one.
     answered: Option<Answered>,
     // What was seen for a request that the last step left, if it left one.
     sight: Option<DeskVisitor<J>>,
 }
 
-impl<J: DeskName, D, G> Model for Guest<J, D, G> {
+impl<J: DeskName, D, G, H> Model for Guest<J, D, G, H> {
     ghost use Rattle.change_log.specs.Logs.{Log};
 
     ghost Value = { Log };
@@ -80,16 +81,16 @@ fn answer_guest<J: DeskName, D: DeskAccess<J>, G: FileAccess>(
     reply
 }
 
-impl<J: DeskName, D: DeskAccess<J>, G: FileAccess> Service for Guest<J, D, G> {
+impl<J: DeskName, D: DeskAccess<J>, G: FileAccess, H: Haste> Service for Guest<J, D, G, H> {
     ghost answers = { IsGuestAnswer D.did };
 
     ghost grows = { λ old new. BeginsWith new old };
 
-    ghost postpones = { ⊤ };
+    ghost postpones = { H.postpones };
 
     fn answer(&mut self, alloc: Global, request: &Request) -> Option<Reply> {
         let mut note = self.note.again();
-        if self.is_quick && may_need_desk(request) && self.leave() {
+        if self.haste.may_leave() && may_need_desk(request) && self.leave() {
             return None;
         }
         let reply = answer_guest(
@@ -100,7 +101,7 @@ impl<J: DeskName, D: DeskAccess<J>, G: FileAccess> Service for Guest<J, D, G> {
             request.body.as_slice(),
         );
         // What isn't at hand a quick guest has no memory for. Where there really is none, the next guest finds the same.
-        if self.is_quick && reply.is_out_of_memory() && self.leave() {
+        if self.haste.may_leave() && reply.is_out_of_memory() && self.leave() {
             return None;
         }
         self.answered = Some(Answered::of(&request.head));
@@ -115,28 +116,19 @@ impl<J: DeskName, D: DeskAccess<J>, G: FileAccess> Service for Guest<J, D, G> {
     ghost goes_on = { houses.goes_on };
 }
 
-impl<J: DeskName, D: DeskAccess<J>, G: FileAccess> Guest<J, D, G> {
+impl<J: DeskName, D: DeskAccess<J>, G: FileAccess, H: Haste> Guest<J, D, G, H> {
     /// A worker at no connection.
-    pub fn new(house: SharedHouse<J, D, G>) -> Guest<J, D, G>
+    pub fn new(house: SharedHouse<J, D, G>, haste: H) -> Guest<J, D, G, H>
         ensures { result ≡ house.known }
     {
         let note = house.visitor.front();
         Guest {
             house,
             note,
-            is_quick: false,
+            haste,
             answered: None,
             sight: None,
         }
-    }
-
-    /// The same, but a quick one.
-    pub fn quick(house: SharedHouse<J, D, G>) -> Guest<J, D, G>
-        ensures { result ≡ house.known }
-    {
-        let mut guest = Guest::new(house);
-        guest.is_quick = true;
-        guest
     }
 
     /// Takes what was seen for a request that the last step left, for the guest that answers it.
@@ -202,7 +194,7 @@ impl<J: DeskName, D: DeskAccess<J>, G: FileAccess> Guest<J, D, G> {
             → Leads (IsGuestAnswer D.did) X.saw (Unit {0}) X.waits start first duplex.new.stream note.new
             connection.new result }
         ensures asks { AnswersOnce (IsGuestAnswer D.did) note.old note.new }
-        ensures later { result ≡ Progress.Postponed → note.new ≡ note.old }
+        ensures later { result ≡ Progress.Postponed → H.postpones × (note.new ≡ note.old) }
         ensures grows { BeginsWith note.new note.old }
         ensures goes { Goes X.saw duplex.old.stream duplex.new.stream result
             (phases_left connection.old.number connection.old.phase)

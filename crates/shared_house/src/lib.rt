@@ -6,6 +6,7 @@ mod answering;
 mod desk_access;
 mod file_access;
 mod guests;
+mod haste;
 mod houses;
 pub mod laws;
 
@@ -13,4 +14,5 @@ pub use answered::Answered;
 pub use desk_access::{DeskAccess, Taken};
 pub use file_access::{CachedFiles, FileAccess, GroupFiles};
 pub use guests::{Guest, Note};
+pub use haste::{Haste, Patient, Quick};
 pub use houses::{DeskVisitor, SharedHouse};

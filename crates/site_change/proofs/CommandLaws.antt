@@ -10,13 +10,13 @@ use Rattle.host_names.specs.declared.cells.Cell.{Cell}
 use Rattle.host_names.specs.declared.cells.Cell.TheVariants as cell
 use Rattle.site_state.specs.Aliases.{alias_for, name_in, stands_for}
 use Rattle.site_state.specs.Named.{AliasesNamed}
-use Rattle.site_state.specs.States.{State, with_cell, as_file, as_tree, as_number, as_draft, live_at, kept_at, draft_at, is_alias_of}
+use Rattle.site_state.specs.States.{State, with_cell, as_file, as_tree, as_number, as_draft, live_at, kept_at, draft_at, is_alias_of, is_live_below, entries_below}
 use Rattle.site_state.specs.declared.values.Value.TheVariants as value
 use Rattle.site_state.proofs.Named.{named_live, named_draft, named_without_alias, named_with_alias, named_without_kept}
 use Rattle.site_change.specs.declared.commands.Command.{Command}
-use Rattle.site_change.specs.declared.commands.Command.TheVariants.{Open, Publish, Cancel, Remove, Rename, MoveAlias, RemoveAlias, Restore, RemoveDeploy}
+use Rattle.site_change.specs.declared.commands.Command.TheVariants.{Open, Publish, Cancel, Remove, Rename, RenameFolder, MoveAlias, RemoveAlias, Restore, RemoveDeploy}
 use Rattle.site_change.specs.declared.refusals.ChangeRefusal.TheVariants.{NoSuchDraft, NoSuchDeploy, NoSuchFile, NoSuchAlias}
-use Rattle.site_change.specs.Changes.{IsCommandInRange, same_cell, needed, rename_refusal, publish_refusal, restore_refusal, removal_refusal, published, restored, refusal, applied, site_of_command, publish_touches, restore_touches, touches, IsWithin}
+use Rattle.site_change.specs.Changes.{IsCommandInRange, same_cell, needed, rename_refusal, folder_refusal, folder_renamed, publish_refusal, restore_refusal, removal_refusal, published, restored, refusal, applied, site_of_command, publish_touches, restore_touches, touches, IsWithin}
 use Rattle.site_change.specs.Laws.{AgreeOn, SameEffect}
 use Rattle.site_change.specs.Uploaded.{AreUploaded}
 use Rattle.site_change.proofs.Deploys.{DeploysFrom, without_new, none_by_removal, none_by_live, none_by_alias, none_by_publishing, none_by_restoring, from_opening}
@@ -24,9 +24,10 @@ use Rattle.site_change.proofs.Drafts.{DraftsFrom, stay_all, stay_then, stay_by_w
 use Rattle.site_change.proofs.SitesTouched.{either, at_cell, at_alias, at_publish, at_restore}
 use Rattle.site_change.proofs.Effects.{same_cell-itself, get-with_two}
 use Rattle.site_change.proofs.Fitting.{IsLeftOrFits, live_fits, write_fits, both_fit, publish_fits, restore_fits}
+use Rattle.site_change.proofs.FolderMoves.{all_below, at_below, same_files, renamed_reads, renamed_leaves, renamed_fits, named_renamed, renamed_uploaded, none_by_renaming, stay_by_renaming}
 use Rattle.site_change.proofs.NamedAliases.{named_publish, named_restore, is_there, no_alias}
 use Rattle.site_change.proofs.Ranges.{AreNumbered, few_listed, is_kept, is_known, is_open}
-use Rattle.site_change.proofs.ReadsAndWrites.{or_false, publish_reads, publish_writes, restore_reads, restore_writes, same_draft, write_reads, write_leaves, or_here, or_there, or_after, same_alias_entries, or_second}
+use Rattle.site_change.proofs.ReadsAndWrites.{or_false, publish_reads, publish_writes, restore_reads, restore_writes, same_draft, write_reads, write_leaves, or_front, or_here, or_there, or_after, same_alias_entries, or_second}
 use Rattle.site_change.proofs.SameFiles.{publish_grows, restore_grows}
 use Rattle.site_change.proofs.Uploading.{served_uploaded, kept_uploaded, write_uploaded, publish_uploaded, restore_uploaded}
 
@@ -149,6 +150,27 @@ command_laws (Rename site source target) n state uploads =
       deploys = without_new (Rename site source target) n state _ (λ own m there. none_by_removal state a own m (none_by_live gone site target file own m there));
       drafts = stay_all (Rename site source target) n state _ (stay_then state gone _ (stay_by_removal state a) (stay_by_live gone site target file));
       of_site = λ c. either (site_of c ≡ site) (same_cell c a) (same_cell c b) (at_cell c a) (at_cell c b);
+      in_range = λ numbered accepted. tt;
+    }
+command_laws (RenameFolder site source target) n state uploads =
+    let files = entries_below state site source in record {
+      reads = λ other agree.
+          let old : entries_below other site source ≡ files = same_files site source state other (λ c h. agree c (or_front _ _ h)) in
+          let new : entries_below other site target ≡ entries_below state site target = same_files site target state other (λ c h. agree c (or_after _ _ h)) in record {
+            answer = λ i. folder_refusal source target (old i) (new i);
+            touched = λ c. refl;
+            values = λ c h. (λ i. map.get (folder_renamed site source target other (old i)) c) ∙ renamed_reads site source target files state other c (agree c h);
+          };
+      writes = λ c h.
+          let parts = or_false (is_live_below site source c) (is_live_below site target c) h in
+          renamed_leaves site source target files (all_below state site source) state c parts.0 parts.1;
+      fits = renamed_fits site source target files state;
+      named = λ named accepted. named_renamed site source target files state named;
+      grows = λ more within accepted. (accepted, refl);
+      uploaded = λ digested all accepted. renamed_uploaded uploads site source target state all;
+      deploys = without_new (RenameFolder site source target) n state _ (none_by_renaming site source target files state);
+      drafts = stay_all (RenameFolder site source target) n state _ (stay_by_renaming site source target files state);
+      of_site = λ c. either (site_of c ≡ site) (is_live_below site source c) (is_live_below site target c) (at_below site source c) (at_below site target c);
       in_range = λ numbered accepted. tt;
     }
 command_laws (MoveAlias site name m) n state uploads =

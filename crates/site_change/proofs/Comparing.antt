@@ -127,11 +127,14 @@ passing P test (x ∷ xs) h = elim (test x) as (λ t. AllByRecursion P (cond t (
   | false ↦ passing P test xs h.1
 ]
 
-pub live_uploaded : (uploads : Contents) (state : State) (site : SiteName) → AreUploaded uploads state → AllByRecursion (λ e. HasUploaded uploads e.1) (live_entries state site)
-live_uploaded uploads state site all =
+pub filtered_uploaded : (uploads : Contents) (state : State) (test : Cell → Bool) → AreUploaded uploads state → AllByRecursion (λ e. HasUploaded uploads e.1) (filter (λ e. test e.0) (finmap.entries state))
+filtered_uploaded uploads state test all =
     let entries = finmap.entries state in
     let found : (c : Cell) → HoldsUploaded uploads (in_list entries c) = λ c. subst (HoldsUploaded uploads) (finmap.get-entries state c) (all c) in
-    passing (λ e. HasUploaded uploads e.1) (λ e. is_live_of site e.0) entries (in_entries uploads entries (sorted_from_test cell_cmp entries (finmap.entries_sorted state)) found)
+    passing (λ e. HasUploaded uploads e.1) (λ e. test e.0) entries (in_entries uploads entries (sorted_from_test cell_cmp entries (finmap.entries_sorted state)) found)
+
+pub live_uploaded : (uploads : Contents) (state : State) (site : SiteName) → AreUploaded uploads state → AllByRecursion (λ e. HasUploaded uploads e.1) (live_entries state site)
+live_uploaded uploads state site all = filtered_uploaded uploads state (is_live_of site) all
 
 -- those at the heads of both lists can be compared
 pub heads_comparable : (site : SiteName) (live : List (Cell × Value)) (tree : Paths (List ℕ)) (e : Cell × Value) (live_left : List (Cell × Value)) (f : List ℕ × List ℕ)

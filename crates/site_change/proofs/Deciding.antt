@@ -34,7 +34,7 @@ in_live_entries state site c live =
     find-where_key cell_cmp (is_live_of site) c (λ x tie. ap (is_live_of site) (sym (cell_cmp-IsAntisymmetric c x tie))) (finmap.entries state)
     ∙ ap (λ t. cond t (finmap.find cell_cmp c (finmap.entries state)) None) live ∙ sym (finmap.get-entries state c)
 
-passing : {X : Type 0} (test : X → Bool) (xs : List X) → AllByRecursion (λ x. test x ≡ true) (filter test xs)
+pub passing : {X : Type 0} (test : X → Bool) (xs : List X) → AllByRecursion (λ x. test x ≡ true) (filter test xs)
 passing test [] = tt
 passing test (x ∷ xs) = elim (test x) as (λ t. test x ≡ t → AllByRecursion (λ y. test y ≡ true) (cond t (x ∷ filter test xs) (filter test xs))) [
   | true ↦ λ e. (e, passing test xs)
@@ -52,7 +52,7 @@ in_tree_at site (f ∷ tree) p =
       | false ↦ refl
     ])
 
-in_tree : (site : SiteName) (tree : Paths (List ℕ)) (c : Cell) → is_live_of site c ≡ true → in_list (live_cells site tree) c ≡ option_map value.Live (at_path tree (text_of c))
+pub in_tree : (site : SiteName) (tree : Paths (List ℕ)) (c : Cell) → is_live_of site c ≡ true → in_list (live_cells site tree) c ≡ option_map value.Live (at_path tree (text_of c))
 in_tree site tree c live = ap (in_list (live_cells site tree)) (live_of site c live) ∙ in_tree_at site tree (text_of c)
 
 -- cells at paths of a site are in the order of the paths
@@ -64,7 +64,7 @@ paths_before : (site : SiteName) (p : List ℕ) (tree : Paths (List ℕ)) → Al
 paths_before site p [] h = tt
 paths_before site p (f ∷ tree) h = (path_before site p f.0 h.0, paths_before site p tree h.1)
 
-live_cells_sorted : (site : SiteName) (tree : Paths (List ℕ)) → IsByPath tree → IsStrictlySortedBy cell_cmp (map (λ e. e.0) (live_cells site tree))
+pub live_cells_sorted : (site : SiteName) (tree : Paths (List ℕ)) → IsByPath tree → IsStrictlySortedBy cell_cmp (map (λ e. e.0) (live_cells site tree))
 unfolding IsStrictlySortedBy
 live_cells_sorted site [] h = tt
 live_cells_sorted site (f ∷ tree) h = (paths_before site f.0 tree h.0, live_cells_sorted site tree h.1)

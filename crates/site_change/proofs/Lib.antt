@@ -8,6 +8,7 @@ pub mod Listings
 pub mod PathLists
 -- what one command writes, by law
 pub mod ReadsAndWrites
+pub mod FolderMoves
 pub mod Fitting
 pub mod NamedAliases
 pub mod SameFiles

@@ -97,6 +97,9 @@ pub or_there : (a : Bool) (at : Cell) → (a || same_cell at at) ≡ true
 or_there true at = refl
 or_there false at = same_cell-itself at
 
+pub or_front : (a b : Bool) → a ≡ true → (a || b) ≡ true
+or_front a b e = ap (λ t. t || b) e
+
 pub or_after : (a b : Bool) → b ≡ true → (a || b) ≡ true
 or_after true b e = refl
 or_after false b e = e

@@ -1,25 +1,28 @@
 -- What a command touches and what it changes, cell by cell.
-use Rattle.std.proofs.Common.{◌≡◌, ◌≢◌, ◌↔◌, ◌⊎◌, inl, inr, ℕ, zero, suc, Bool, true, false, not, cond, ◌||◌, List, [], ◌∷◌, map, Contains, Option, Some, None, option_map, unwrap_or, refl, sym, ap, ◌∙◌, arith}
+use Rattle.std.proofs.Common.{◌≡◌, ◌≢◌, ◌↔◌, ◌⊎◌, inl, inr, ℕ, zero, suc, Bool, true, false, not, cond, ◌&&◌, ◌||◌, List, [], ◌∷◌, length, drop, map, Contains, Option, Some, None, option_map, unwrap_or, refl, sym, ap, ◌∙◌, arith}
 use Rattle.std.specs.FinMap as map
 use Rattle.std.specs.Option.{option_eq}
 use Rattle.byte_view.specs.Contents.{Contents}
 use Rattle.host_names.specs.Cells.{text_of}
+use Rattle.host_names.specs.Folders.{slash_after}
+use Rattle.host_names.proofs.Folders.{below-is, below-of}
 use Rattle.host_names.specs.declared.names.SiteName.{SiteName}
 use Rattle.host_names.specs.declared.cells.Cell.{Cell}
 use Rattle.host_names.specs.declared.cells.Cell.TheVariants as cell
 use Rattle.host_names.specs.declared.names.AliasName.{AliasName}
 use Rattle.site_state.specs.Files.{Paths}
 use Rattle.site_state.specs.Listings.{Listed}
-use Rattle.site_state.specs.States.{State, kept_at, draft_at, is_live_of, is_alias_of}
+use Rattle.site_state.specs.States.{State, kept_at, draft_at, is_live_of, is_live_below, is_alias_of}
 use Rattle.site_state.specs.Values.{value_eq}
 use Rattle.site_state.specs.declared.values.Draft.{Draft}
 use Rattle.site_state.specs.declared.values.Value.{Value}
 use Rattle.site_change.specs.declared.commands.Command.{Command}
 use Rattle.site_change.specs.declared.commands.Command.TheVariants.{Open, Publish, Restore, RemoveDeploy}
 use Rattle.site_change.specs.Changes.{same_cell, applied, is_listed, publish_touches, restore_touches, touches, changes}
-use Rattle.site_change.specs.Laws.{IsPartOfDeploy, IsListedPath, IsPartOfPatch}
+use Rattle.site_change.specs.Laws.{IsBelow, IsPartOfDeploy, IsListedPath, IsPartOfPatch}
 use Rattle.site_change.specs.TouchedCells.{is_of_deploy, is_of_patch}
 use Rattle.site_change.proofs.Effects.{one_cell, same_cell-itself, bytes_eq-itself, live_of}
+use Rattle.site_change.proofs.FolderMoves.{below_live, below_path}
 use Rattle.site_change.proofs.Locality.{same_value-itself, same_value-same}
 use Rattle.site_change.proofs.Patches.{Listings}
 use Rattle.std.proofs.lemmas.Slice.Eq.{bytes_eq-Decides}
@@ -193,3 +196,17 @@ module _ (site : SiteName) (m : ℕ) (c : Cell) where
 
   pub by_removal : (n : ℕ) (state : State) → (touches (RemoveDeploy site m) n state c ≡ true) ↔ ((c ≡ cell.Kept site m) ⊎ ((name : AliasName) × (c ≡ cell.Alias site name)))
   by_removal n state = either_test kept (is_alias_of site c) (cell_is c (cell.Kept site m)) alias_is
+
+-- below a folder
+below_is : (site : SiteName) (folder : List ℕ) (c : Cell) → (is_live_below site folder c ≡ true) ↔ IsBelow site folder c
+below_is site folder c = (
+  λ below. (
+    drop (length (slash_after folder)) (text_of c),
+    live_of site c (below_live site folder c below) ∙ ap (cell.Live site) (below-is folder (text_of c) (below_path site folder c below).1),
+  ),
+  λ at. ap (is_live_below site folder) at.1 ∙ (λ i. bytes_eq-itself site.0 i && below-of folder at.0 i),
+)
+
+pub by_folder : (site : SiteName) (source target : List ℕ) (c : Cell)
+    → ((is_live_below site source c || is_live_below site target c) ≡ true) ↔ (IsBelow site source c ⊎ IsBelow site target c)
+by_folder site source target c = either_test (is_live_below site source c) (is_live_below site target c) (below_is site source c) (below_is site target c)

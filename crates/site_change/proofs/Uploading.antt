@@ -77,7 +77,7 @@ module _ (uploads : Contents) where
   kept_uploaded (Some (value.Draft draft)) h = tt
   kept_uploaded None h = tt
 
-  either : (t : Bool) (v w : Option Value) → HoldsUploaded uploads v → HoldsUploaded uploads w → HoldsUploaded uploads (cond t v w)
+  pub either : (t : Bool) (v w : Option Value) → HoldsUploaded uploads v → HoldsUploaded uploads w → HoldsUploaded uploads (cond t v w)
   either true v w one other = one
   either false v w one other = other
 
@@ -86,7 +86,7 @@ module _ (uploads : Contents) where
   pub write_uploaded : (state : State) (at : Cell) (v : Option Value) → HoldsUploaded uploads v → AreUploaded uploads state → AreUploaded uploads (with_cell state at v)
   write_uploaded state at v one all c = subst (HoldsUploaded uploads) (sym (get-with_cell state at v c)) (either (same_cell c at) v (map.get state c) one (all c))
 
-  serve_uploaded : (site : SiteName) (tree : Paths (List ℕ)) (state : State) → IsUploadedTree uploads tree → AreUploaded uploads state
+  pub serve_uploaded : (site : SiteName) (tree : Paths (List ℕ)) (state : State) → IsUploadedTree uploads tree → AreUploaded uploads state
       → AreUploaded uploads (with_live site tree state)
   serve_uploaded site [] state files all = all
   serve_uploaded site (f ∷ tree) state files all =

@@ -6,7 +6,8 @@ use Rattle.std.specs.Option.{option_eq}
 use Rattle.std.specs.Ordering.{eq_by_cmp}
 use Rattle.std.specs.Str.{bytes_eq}
 use Rattle.byte_view.specs.Contents.{Contents}
-use Rattle.host_names.specs.Cells.{cell_cmp}
+use Rattle.host_names.specs.Cells.{cell_cmp, text_of}
+use Rattle.host_names.specs.Folders.{is_below, moved}
 use Rattle.host_names.specs.declared.names.SiteName.{SiteName}
 use Rattle.host_names.specs.declared.cells.Cell.{Cell}
 use Rattle.host_names.specs.declared.cells.Cell.TheVariants as cell
@@ -15,14 +16,15 @@ use Rattle.host_names.specs.declared.names.AliasName.{AliasName}
 use Rattle.site_state.specs.Aliases.{alias_for}
 use Rattle.site_state.specs.Files.{Paths}
 use Rattle.site_state.specs.Missing.{least_missing_of}
-use Rattle.site_state.specs.States.{State, with_cell, live_at, kept_at, alias_at, draft_at, is_live_of, is_alias_of}
+use Rattle.site_state.specs.States.{State, with_cell, as_file, live_at, kept_at, alias_at, draft_at, is_live_of, is_live_below, is_alias_of, entries_below}
 use Rattle.site_state.specs.Values.{value_eq}
 use Rattle.site_state.specs.declared.values.Draft.{Draft}
+use Rattle.site_state.specs.declared.values.Value.{Value}
 use Rattle.site_state.specs.declared.values.Value.TheVariants as value
 use Rattle.site_change.specs.declared.commands.Command.{Command}
-use Rattle.site_change.specs.declared.commands.Command.TheVariants.{Open, Publish, Cancel, Remove, Rename, MoveAlias, RemoveAlias, Restore, RemoveDeploy}
+use Rattle.site_change.specs.declared.commands.Command.TheVariants.{Open, Publish, Cancel, Remove, Rename, RenameFolder, MoveAlias, RemoveAlias, Restore, RemoveDeploy}
 use Rattle.site_change.specs.declared.refusals.ChangeRefusal.{ChangeRefusal}
-use Rattle.site_change.specs.declared.refusals.ChangeRefusal.TheVariants.{NoSuchDraft, NotComplete, NoSuchDeploy, NoSuchFile, PathTaken, SamePath, NoSuchAlias, DeployInUse, TooManyFiles}
+use Rattle.site_change.specs.declared.refusals.ChangeRefusal.TheVariants.{NoSuchDraft, NotComplete, NoSuchDeploy, NoSuchFile, PathTaken, SamePath, NoSuchAlias, DeployInUse, NestedFolder, PathTooLong, TooManyFiles}
 
 -- whether two cells are one
 abbrev pub same_cell : Cell → Cell → Bool
@@ -46,6 +48,29 @@ rename_refusal true source target = Some SamePath
 rename_refusal false None target = Some NoSuchFile
 rename_refusal false (Some file) None = None
 rename_refusal false (Some file) (Some other) = Some PathTaken
+
+-- whether the new path of a file has more than 1,024 bytes
+abbrev pub is_too_long : List ℕ → List ℕ → Cell × Value → Bool
+is_too_long source target file = nat_lt 1024 (length (moved source target (text_of file.0)))
+
+-- the reasons against a move, by whether a new path is too long, by the files that are moved, and by those where they go
+abbrev pub move_refusal : Bool → List (Cell × Value) → List (Cell × Value) → Option ChangeRefusal
+move_refusal long [] there = Some NoSuchFile
+move_refusal true (file ∷ files) there = Some PathTooLong
+move_refusal false (file ∷ files) [] = None
+move_refusal false (file ∷ files) (other ∷ there) = Some PathTaken
+
+-- whether there are no files
+abbrev pub are_none : List (Cell × Value) → Bool
+are_none [] = true
+are_none (file ∷ files) = false
+
+-- the reasons against the renaming of a folder, by the files below the one path and those below the other
+abbrev pub folder_refusal : List ℕ → List ℕ → List (Cell × Value) → List (Cell × Value) → Option ChangeRefusal
+folder_refusal source target files there =
+    if bytes_eq source target then Some SamePath
+    else if is_below source target || is_below target source then Some NestedFolder
+    else move_refusal (list_any (is_too_long source target) files) files there
 
 -- the reasons against a restoring, by what is kept and what is open under the number
 abbrev pub restore_refusal : Contents → Option (Paths (List ℕ)) → Option Draft → Option ChangeRefusal
@@ -112,6 +137,18 @@ restored site m uploads state None draft = published site m uploads state draft
 abbrev pub renamed : SiteName → List ℕ → List ℕ → State → Option (List ℕ) → State
 renamed site source target state file = with_cell (with_cell state (cell.Live site source) None) (cell.Live site target) (option_map value.Live file)
 
+-- the state in which the site serves nothing below the folder
+abbrev pub without_below : SiteName → List ℕ → State → State
+without_below site folder state = map.retain_keys state (λ c. not (is_live_below site folder c))
+
+-- the files below the one folder, each at its path in the other
+abbrev pub moved_files : List ℕ → List ℕ → List (Cell × Value) → Paths (List ℕ)
+moved_files source target files = filter_map (λ e. option_map (λ file. (moved source target (text_of e.0), file)) (as_file (Some e.1))) files
+
+-- the state in which the files below the one folder are below the other
+abbrev pub folder_renamed : SiteName → List ℕ → List ℕ → State → List (Cell × Value) → State
+folder_renamed site source target state files = with_live site (moved_files source target files) (without_below site source state)
+
 -- ---- what it touches
 
 -- whether it is one of the listed paths of the site
@@ -175,6 +212,12 @@ meaning (Rename site source target) n state = record {
   after = λ _. renamed site source target state (live_at state site source);
   touches = λ c. same_cell c (cell.Live site source) || same_cell c (cell.Live site target);
 }
+meaning (RenameFolder site source target) n state = record {
+  site = site;
+  refusal = λ _. folder_refusal source target (entries_below state site source) (entries_below state site target);
+  after = λ _. folder_renamed site source target state (entries_below state site source);
+  touches = λ c. is_live_below site source c || is_live_below site target c;
+}
 meaning (MoveAlias site name m) n state = record {
   site = site;
   refusal = λ _. needed NoSuchDeploy (kept_at state site m);
@@ -216,6 +259,7 @@ IsCommandInRange (Cancel site n) = IsNumber n
 IsCommandInRange (MoveAlias site alias n) = IsNumber n
 IsCommandInRange (RemoveAlias site alias) = Unit {0}
 IsCommandInRange (Rename site source target) = Unit {0}
+IsCommandInRange (RenameFolder site source target) = Unit {0}
 IsCommandInRange (Remove site path) = Unit {0}
 IsCommandInRange (Restore site n) = IsNumber n
 IsCommandInRange (RemoveDeploy site n) = IsNumber n

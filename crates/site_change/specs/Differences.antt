@@ -1,11 +1,12 @@
 -- What differs between two readings of cells.
-use Rattle.std.specs.Prelude.{◌≡◌, ◌≢◌, ℕ, ◌+◌, ◌<◌, List, ◌++◌, map, length, Bool, true, not, Option, Some, None, option_to_list, if◌then◌else◌}
+use Rattle.std.specs.Prelude.{◌≡◌, ◌≢◌, ℕ, ◌+◌, ◌<◌, List, ◌++◌, map, length, Bool, true, false, not, Option, Some, None, option_to_list, if◌then◌else◌}
 use Rattle.std.specs.FinMap as finmap
 use Rattle.std.specs.FinMap.{find}
-use Rattle.std.specs.List.{AllByRecursion, list_all}
+use Rattle.std.specs.List.{AllByRecursion, list_all, list_any}
 use Rattle.std.specs.List.Sorted.{IsStrictlySortedBy}
 use Rattle.byte_view.specs.Contents.{Contents}
-use Rattle.host_names.specs.Cells.{cell_cmp}
+use Rattle.host_names.specs.Cells.{cell_cmp, is_live, text_of}
+use Rattle.host_names.specs.Folders.{is_below}
 use Rattle.host_names.specs.declared.names.SiteName.{SiteName}
 use Rattle.host_names.specs.declared.cells.Cell.{Cell}
 use Rattle.host_names.specs.declared.cells.Cell.TheVariants as cell
@@ -16,7 +17,7 @@ use Rattle.site_state.specs.Values.{same_value, are_alike}
 use Rattle.site_state.specs.declared.values.Value.{Value}
 use Rattle.site_state.specs.declared.values.Value.TheVariants as value
 use Rattle.site_state.specs.declared.changes.Change.{Change}
-use Rattle.site_change.specs.Changes.{same_cell, is_listed, with_listed}
+use Rattle.site_change.specs.Changes.{same_cell, is_listed, is_too_long, with_listed}
 use Rattle.site_change.specs.Uploaded.{HasUploaded, IsUploadedTree, AreUploaded}
 
 -- what is in each cell
@@ -84,3 +85,12 @@ change_at c before after = if same_value before after then None else Some (recor
 abbrev pub AreListedChanges : SiteName → Contents → Paths (Option Digest) → State → List Change → Type 0
 AreListedChanges site uploads files state =
     AreChangesIn (is_listed site files) (finmap.get state) (finmap.get (with_listed site uploads files state))
+
+-- the cell is a path below the folder
+abbrev pub IsBelowPath : List ℕ → Cell → Type 0
+IsBelowPath folder c = (is_live c ≡ true) × (is_below folder (text_of c) ≡ true)
+
+-- Each of the files is below the one folder, and none of their paths in the other is too long.
+pub record AreMovable (source target : List ℕ) (files : List (Cell × Value)) : Type 0 where
+  pub below : AllByRecursion (λ e. IsBelowPath source e.0) files
+  pub short : list_any (is_too_long source target) files ≡ false

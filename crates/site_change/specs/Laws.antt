@@ -1,5 +1,5 @@
 -- Laws of changes.
-use Rattle.std.specs.Prelude.{◌≡◌, ◌≢◌, ◌⊎◌, ℕ, List, ◌∷◌, map, Contains, Bool, true, false, Option, Some, None, option_map, if◌then◌else◌}
+use Rattle.std.specs.Prelude.{◌≡◌, ◌≢◌, ◌⊎◌, ℕ, List, ◌∷◌, ◌++◌, map, Contains, Bool, true, false, Option, Some, None, option_map, if◌then◌else◌}
 use Rattle.std.specs.FinMap as map
 use Rattle.byte_view.specs.Contents.{Contents}
 use Rattle.host_names.specs.declared.digests.Digest.{Digest}
@@ -7,7 +7,7 @@ use Rattle.host_names.specs.declared.names.SiteName.{SiteName}
 use Rattle.host_names.specs.declared.cells.Cell.{Cell}
 use Rattle.host_names.specs.declared.cells.Cell.TheVariants as cell
 use Rattle.site_state.specs.Files.{Paths, at_path}
-use Rattle.site_state.specs.States.{State, is_live_of}
+use Rattle.site_state.specs.States.{State, live_at, is_live_of, is_live_below}
 use Rattle.site_state.specs.declared.values.Value.TheVariants as value
 use Rattle.site_change.specs.declared.commands.Command.{Command}
 use Rattle.site_change.specs.Changes.{refusal, applied, touches, changes, run_from, AvoidAll, IsWithin}
@@ -88,3 +88,14 @@ LeavesOut uploads state change later =
 abbrev pub KeepsRunning : Contents → Contents → State → List (ℕ × Command) → Type 0
 KeepsRunning uploads more state commands =
     IsWithin uploads more → (after : State) → run_from uploads state commands ≡ Some after → run_from more state commands ≡ Some after
+
+-- The cell is a path of the site below the folder: its text, a slash and more.
+abbrev pub IsBelow : SiteName → List ℕ → Cell → Type 0
+IsBelow site folder c = (rest : List ℕ) × (c ≡ cell.Live site (folder ++ 47 ∷ rest))
+
+-- What was served below the one folder is served below the other, at the same path from there on; below the one nothing is served. Each
+-- other cell has what it had.
+pub record LeavesFolder (site : SiteName) (source target : List ℕ) (before after : State) : Type 0 where
+  pub moved : (rest : List ℕ) → live_at after site (target ++ 47 ∷ rest) ≡ live_at before site (source ++ 47 ∷ rest)
+  pub emptied : (rest : List ℕ) → map.get after (cell.Live site (source ++ 47 ∷ rest)) ≡ None
+  pub others : (c : Cell) → is_live_below site source c ≡ false → is_live_below site target c ≡ false → map.get after c ≡ map.get before c

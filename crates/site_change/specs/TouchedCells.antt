@@ -5,7 +5,7 @@ use Rattle.host_names.specs.declared.cells.Cell.TheVariants as cell
 use Rattle.host_names.specs.declared.names.SiteName.{SiteName}
 use Rattle.host_names.specs.declared.digests.Digest.{Digest}
 use Rattle.site_state.specs.Files.{Paths}
-use Rattle.site_state.specs.States.{is_live_of, is_alias_of}
+use Rattle.site_state.specs.States.{is_live_of, is_live_below, is_alias_of}
 use Rattle.site_change.specs.declared.touched.Touched.{Touched}
 use Rattle.site_change.specs.declared.touched.TouchedCells.{TouchedCells}
 use Rattle.site_change.specs.declared.touched.TouchedCells.TheVariants as touched
@@ -23,6 +23,7 @@ is_of_patch site m files c = same_cell c (cell.Draft site m) || is_listed site f
 abbrev pub is_among : SiteName → TouchedCells → Cell → Bool
 is_among site (touched.Path path) c = same_cell c (cell.Live site path)
 is_among site (touched.Paths one other) c = same_cell c (cell.Live site one) || same_cell c (cell.Live site other)
+is_among site (touched.Folders one other) c = is_live_below site one c || is_live_below site other c
 is_among site (touched.Draft m) c = same_cell c (cell.Draft site m)
 is_among site (touched.Alias name) c = same_cell c (cell.Alias site name)
 is_among site (touched.AliasAndKept name m) c = same_cell c (cell.Kept site m) || same_cell c (cell.Alias site name)

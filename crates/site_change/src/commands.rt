@@ -1,7 +1,7 @@
 //! Commands: the changes that can be asked for.
 ghost use Rattle.std.specs.Prelude.{◌≡◌, IfOk};
 ghost use Rattle.site_change.specs.Changes.{site_of_command};
-ghost use Rattle.site_change.specs.declared.commands.Command.TheVariants.{Open, Rename};
+ghost use Rattle.site_change.specs.declared.commands.Command.TheVariants.{MoveAlias, Open, Remove, Rename, RenameFolder};
 
 use host_names::{AliasName, FilePath, SiteName};
 use site_state::Listing;
@@ -34,6 +34,12 @@ pub enum Command {
     },
     /// Moves the file at one path to another, where nothing is served.
     Rename {
+        site: SiteName,
+        source: FilePath,
+        target: FilePath,
+    },
+    /// Moves each file below a folder to the same path below another, where nothing is served.
+    RenameFolder {
         site: SiteName,
         source: FilePath,
         target: FilePath,
@@ -72,6 +78,7 @@ impl Command {
             | Command::Cancel { site, .. }
             | Command::Remove { site, .. }
             | Command::Rename { site, .. }
+            | Command::RenameFolder { site, .. }
             | Command::MoveAlias { site, .. }
             | Command::RemoveAlias { site, .. }
             | Command::Restore { site, .. }
@@ -99,6 +106,37 @@ fn renaming(site: SiteName, source: &FilePath, target: &FilePath) -> Result<Comm
     })
 }
 
+/// The renaming of one folder to another.
+fn folder_renaming(
+    site: SiteName,
+    source: &FilePath,
+    target: &FilePath,
+) -> Result<Command, AllocError>
+    ensures { IfOk result (λ command. command ≡ RenameFolder site source.now target.now) }
+{
+    Ok(Command::RenameFolder {
+        site,
+        source: source.clone()?,
+        target: target.clone()?,
+    })
+}
+
+/// The removal of a file.
+fn removal(site: SiteName, path: &FilePath) -> Result<Command, AllocError>
+    ensures { IfOk result (λ command. command ≡ Remove site path.now) }
+{
+    let path = path.clone()?;
+    Ok(Command::Remove { site, path })
+}
+
+/// The choice of a deploy for an alias.
+fn aliasing(site: SiteName, name: &AliasName, number: u64) -> Command
+    ensures { result ≡ MoveAlias site name.now number }
+{
+    let name = name.copied();
+    Command::MoveAlias { site, name, number }
+}
+
 /// A copy shares its paths and what it lists.
 impl Clone for Command {
     ghost is_clone = { λ command copy. copy ≡ command };
@@ -113,24 +151,22 @@ impl Clone for Command {
             } => opening(site, files, auto)?,
             Command::Publish { number, .. } => Command::Publish { site, number },
             Command::Cancel { number, .. } => Command::Cancel { site, number },
-            Command::Remove { ref path, .. } => Command::Remove {
-                site,
-                path: path.clone()?,
-            },
+            Command::Remove { ref path, .. } => removal(site, path)?,
             Command::Rename {
                 ref source,
                 ref target,
                 ..
             } => renaming(site, source, target)?,
+            Command::RenameFolder {
+                ref source,
+                ref target,
+                ..
+            } => folder_renaming(site, source, target)?,
             Command::MoveAlias {
                 ref name,
                 number,
                 ..
-            } => Command::MoveAlias {
-                site,
-                name: name.copied(),
-                number,
-            },
+            } => aliasing(site, name, number),
             Command::RemoveAlias { ref name, .. } => Command::RemoveAlias {
                 site,
                 name: name.copied(),

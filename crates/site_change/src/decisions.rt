@@ -19,6 +19,7 @@ use crate::cell_commands::{
     cancel, move_alias, plan_one, remove, remove_alias, remove_deploy, rename,
 };
 use crate::commands::Command;
+use crate::folders::rename_folder;
 use crate::plans::Plan;
 use crate::publishing::{publish, restore};
 use crate::refusals::{ChangeError, ChangeRefusal};
@@ -97,6 +98,11 @@ fn decision<U: Uploads>(
             source,
             target,
         } => rename(alloc, state, site, source, target),
+        Command::RenameFolder {
+            site,
+            source,
+            target,
+        } => rename_folder(alloc, state, site, source, target),
         Command::MoveAlias { site, name, number } => {
             move_alias(alloc, state, site, name, *number)
         }

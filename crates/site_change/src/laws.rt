@@ -1,5 +1,5 @@
 //! Laws of changes, each the contract of a function that does nothing.
-ghost use Rattle.std.specs.Prelude.{◌≡◌, ◌≢◌, ◌↔◌, ◌⊎◌, ℕ, Bool, true, false, not, List, [], ◌∷◌, Option, None, Some, Ok, Err};
+ghost use Rattle.std.specs.Prelude.{◌≡◌, ◌≢◌, ◌↔◌, ◌⊎◌, ℕ, Bool, true, false, not, List, [], ◌∷◌, ◌++◌, Option, None, Some, Ok, Err};
 ghost use Rattle.std.specs.FinMap as map;
 ghost use Rattle.host_names.specs.Digests.{digest_of};
 ghost use Rattle.byte_view.specs.Contents.{AreDigested, Contents, with_file};
@@ -14,11 +14,11 @@ ghost use Rattle.site_state.specs.declared.values.Draft.{Draft};
 ghost use Rattle.site_state.specs.declared.values.Value.{Value};
 ghost use Rattle.site_state.specs.declared.values.Value.TheVariants as value;
 ghost use Rattle.site_change.specs.declared.commands.Command.{Command};
-ghost use Rattle.site_change.specs.declared.commands.Command.TheVariants.{Open, Publish, Cancel, Remove, Rename, MoveAlias, RemoveAlias, Restore, RemoveDeploy};
+ghost use Rattle.site_change.specs.declared.commands.Command.TheVariants.{Open, Publish, Cancel, Remove, Rename, RenameFolder, MoveAlias, RemoveAlias, Restore, RemoveDeploy};
 ghost use Rattle.site_change.specs.Changes.{IsWithin, applied, changes, refusal, run_from, touches};
 ghost use Rattle.site_change.specs.Plans.{IsDifference};
 ghost use Rattle.site_change.specs.Refusals.{IsRefusedBy};
-ghost use Rattle.site_change.specs.Laws.{AgreeOn, IsLocal, IsPartOfDeploy, IsPartOfPatch, LeavesDeploy, LeavesOut, LeavesPatch, KeepsRunning};
+ghost use Rattle.site_change.specs.Laws.{AgreeOn, IsLocal, IsPartOfDeploy, IsPartOfPatch, LeavesDeploy, LeavesOut, LeavesPatch, KeepsRunning, IsBelow, LeavesFolder};
 ghost use Rattle.site_change.specs.TouchedCells.{AreTouched, is_touched};
 ghost use Rattle.site_change.specs.Uploaded.{AreUploaded, IsUploaded};
 ghost use Rattle.site_state.specs.declared.changes.Change.{Change};
@@ -150,6 +150,20 @@ pub fn commands_of_few_cells_touch_them_alone()
         (touches (RemoveAlias site name) number state c ≡ true) ↔ (c ≡ cell.Alias site name) }
 {}
 
+/// The renaming of a folder touches each path of its site below the one folder or the other, whether or not a file is there.
+pub fn the_renaming_of_a_folder_touches_all_paths_below()
+    ensures { (site : SiteName) (source target : List ℕ) (number : ℕ) (state : State) (c : Cell) →
+        (touches (RenameFolder site source target) number state c ≡ true) ↔ (IsBelow site source c ⊎ IsBelow site target c) }
+{}
+
+/// What an accepted renaming of a folder leaves. What was served below the one folder is served below the other, at the same path from there
+/// on; below the one nothing is served. All else stays.
+pub fn a_renamed_folder_is_served_elsewhere()
+    ensures { (site : SiteName) (source target : List ℕ) (number : ℕ) (state : State) (uploads : Contents) →
+        refusal (RenameFolder site source target) number state uploads ≡ None →
+        LeavesFolder site source target state (applied (RenameFolder site source target) number state uploads) }
+{}
+
 /// Each of these relations is refuted for one wrong answer, so none of them holds of everything.
 pub fn wrong_answers_are_refused()
     ensures difference { (state : State) (change : Change) (more : List Change) → ¬ (IsDifference state state (change ∷ more)) }
@@ -160,6 +174,8 @@ pub fn wrong_answers_are_refused()
         → ¬ (LeavesPatch site m uploads files before (map.insert after (cell.Draft site m) v)) }
     ensures deploy { (site : SiteName) (m : ℕ) (uploads : Contents) (files : Paths (Option Digest)) (before after : State) (v : Value)
         → ¬ (LeavesDeploy site m uploads files before (map.insert after (cell.Draft site m) v)) }
+    ensures folder { (site : SiteName) (source target rest : List ℕ) (before after : State) (v : Value)
+        → ¬ (LeavesFolder site source target before (map.insert after (cell.Live site (source ++ 47 ∷ rest)) v)) }
     ensures agree { (state : State) (c : Cell) (v : Value) → map.get state c ≡ None → ¬ (AgreeOn (λ c. true) state (map.insert state c v)) }
     ensures within { (contents : Contents) (digest : Digest) (bytes : List ℕ) → ¬ (IsWithin (map.insert contents digest bytes) map.empty) }
 {}

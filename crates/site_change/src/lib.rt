@@ -5,6 +5,7 @@ mod cell_commands;
 mod commands;
 mod decisions;
 mod entries;
+mod folders;
 pub mod laws;
 mod live;
 mod plans;

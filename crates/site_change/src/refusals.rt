@@ -30,6 +30,12 @@ pub enum ChangeRefusal {
     /// The two paths are one.
     #[error("same path")]
     SamePath,
+    /// One of the two folders is below the other.
+    #[error("nested folder")]
+    NestedFolder,
+    /// The new path of a file is too long.
+    #[error("path too long")]
+    PathTooLong,
     /// There is no such alias.
     #[error("no such alias")]
     NoSuchAlias,

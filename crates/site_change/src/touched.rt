@@ -7,7 +7,7 @@ ghost use Rattle.site_change.specs.TouchedCells as spec;
 ghost use Rattle.site_change.specs.TouchedCells.{AreTouched, is_among};
 
 use host_names::{AliasName, Cell, CellRef, FilePath, SiteName};
-use site_state::{Listing, is_alias_of, is_live_of};
+use site_state::{Listing, is_alias_of, is_live_below, is_live_of};
 
 /// The cells that a command reads or writes, all of one site.
 #[derive(Drop)]
@@ -26,6 +26,8 @@ pub enum TouchedCells {
     Path(FilePath),
     /// Two paths.
     Paths(FilePath, FilePath),
+    /// The paths below two folders, whether a file is there or not.
+    Folders(FilePath, FilePath),
     /// The draft of a number.
     Draft(u64),
     /// An alias.
@@ -68,6 +70,9 @@ impl TouchedCells {
             TouchedCells::Path(path) => is_cell(cell, CellRef::Live(site, path)),
             TouchedCells::Paths(one, other) => {
                 is_cell(cell, CellRef::Live(site, one)) || is_cell(cell, CellRef::Live(site, other))
+            }
+            TouchedCells::Folders(one, other) => {
+                is_live_below(cell, site, one) || is_live_below(cell, site, other)
             }
             TouchedCells::Draft(number) => is_cell(cell, CellRef::Draft(site, *number)),
             TouchedCells::Alias(name) => is_cell(cell, CellRef::Alias(site, name)),

@@ -14,6 +14,8 @@ pub mod SameValues
 pub mod Items
 pub mod LiveRange
 pub mod AliasRange
+pub mod FolderRange
 -- that the files, and the aliases, of a site are side by side
 pub mod SpanOfLive
 pub mod SpanOfAliases
+pub mod SpanOfFolder

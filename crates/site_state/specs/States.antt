@@ -1,8 +1,9 @@
 -- The state of the host: what is in each cell.
-use Rattle.std.specs.Prelude.{ℕ, List, [], ◌∷◌, Bool, true, false, Option, Some, None, IsTrue, filter}
+use Rattle.std.specs.Prelude.{ℕ, List, [], ◌∷◌, Bool, true, false, ◌&&◌, Option, Some, None, IsTrue, filter}
 use Rattle.std.specs.FinMap as map
 use Rattle.std.specs.Str.{bytes_eq}
 use Rattle.host_names.specs.Cells.{cell_cmp}
+use Rattle.host_names.specs.Folders.{is_below}
 use Rattle.host_names.specs.declared.names.SiteName.{SiteName}
 use Rattle.host_names.specs.declared.names.AliasName.{AliasName}
 use Rattle.host_names.specs.declared.cells.Cell.{Cell}
@@ -88,6 +89,15 @@ is_live_of site c = false
 -- the files that the site serves, each in its cell, by path
 abbrev pub live_entries : State → SiteName → List (Cell × Value)
 live_entries state site = filter (λ e. is_live_of site e.0) (map.entries state)
+
+-- whether the cell is a path of the site below the folder
+abbrev pub is_live_below : SiteName → List ℕ → Cell → Bool
+is_live_below site folder (cell.Live other path) = bytes_eq site.0 other.0 && is_below folder path
+is_live_below site folder c = false
+
+-- the files that the site serves below the folder, each in its cell, by path
+abbrev pub entries_below : State → SiteName → List ℕ → List (Cell × Value)
+entries_below state site folder = filter (λ e. is_live_below site folder e.0) (map.entries state)
 
 -- whether the cell is an alias of the site
 abbrev pub is_alias_of : SiteName → Cell → Bool

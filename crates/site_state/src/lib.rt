@@ -16,6 +16,6 @@ pub use drafts::{first_lacking, least_missing, missing};
 pub use files::File;
 pub use listings::{Listing, NotAPatch};
 pub use paths::PathMap;
-pub use site_cells::{is_alias_of, is_live_of};
+pub use site_cells::{is_alias_of, is_live_below, is_live_of};
 pub use states::State;
 pub use values::{Draft, Tree, Value};

@@ -2,11 +2,12 @@
 ghost use Rattle.std.specs.Prelude.{◌≡◌, find, option_and_then, option_copied};
 ghost use Rattle.site_state.specs.AliasRange;
 ghost use Rattle.site_state.specs.Aliases.{name_in, stands_for};
+ghost use Rattle.site_state.specs.FolderRange;
 ghost use Rattle.site_state.specs.LiveRange;
 ghost use Rattle.site_state.specs.States;
 
 use crate::values::Value;
-use host_names::{AliasName, Cell, CellRef, SiteName};
+use host_names::{AliasName, Cell, CellRef, FilePath, SiteName};
 use persistent_maps::{Probe, Range, Span};
 use std::cmp::Ordering;
 
@@ -48,6 +49,30 @@ pub fn is_live_of(cell: &Cell, site: &SiteName) -> bool
     }
 }
 
+/// Whether a cell is a path of a site below a folder.
+pub fn is_live_below(cell: &Cell, site: &SiteName, folder: &FilePath) -> bool
+    ensures { result ≡ States.is_live_below site.now folder.now cell.now }
+{
+    match cell {
+        Cell::Live(own, path) => site == own && path.is_below(folder),
+        Cell::Kept(..) | Cell::Alias(..) | Cell::Draft(..) => false,
+    }
+}
+
+/// Whether a cell comes before the paths of a site below a folder.
+pub fn is_before_folder(cell: &Cell, site: &SiteName, folder: &FilePath) -> bool
+    ensures { result ≡ FolderRange.is_before_folder site.now folder.now cell.now }
+{
+    match cell.as_ref().site().cmp(site) {
+        Ordering::Less => true,
+        Ordering::Equal => match cell {
+            Cell::Live(_, path) => path.is_before_folder(folder),
+            Cell::Kept(..) | Cell::Alias(..) | Cell::Draft(..) => false,
+        },
+        Ordering::Greater => false,
+    }
+}
+
 /// A cell that is looked up by its parts.
 #[derive(Drop)]
 pub struct Sought<'a>(pub CellRef<'a>);
@@ -81,6 +106,28 @@ impl<'a> Span<Cell> for LiveOf<'a> {
 
     fn is_within(&self, cell: &Cell) -> bool {
         is_live_of(cell, self.0)
+    }
+}
+
+/// The paths of a site below a folder.
+#[derive(Drop)]
+pub struct LiveBelow<'a>(pub &'a SiteName, pub &'a FilePath);
+
+impl<'a> Span<Cell> for LiveBelow<'a> {
+    ghost use Rattle.site_state.specs.SpanOfFolder.{below_together};
+
+    ghost before = { λ s. FolderRange.is_before_folder s.0.now s.1.now };
+
+    ghost within = { λ s. States.is_live_below s.0.now s.1.now };
+
+    ghost together = { λ s. below_together s.0.now s.1.now };
+
+    fn is_before(&self, cell: &Cell) -> bool {
+        is_before_folder(cell, self.0, self.1)
+    }
+
+    fn is_within(&self, cell: &Cell) -> bool {
+        is_live_below(cell, self.0, self.1)
     }
 }
 

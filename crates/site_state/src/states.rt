@@ -7,7 +7,7 @@ ghost use Rattle.site_state.specs.Named.{AliasesNamed};
 
 use crate::changes::{Change, Side, are_rising, writes_of, written_in_turn};
 use crate::files::File;
-use crate::site_cells::{AliasesOf, LiveOf, Sought, first_alias};
+use crate::site_cells::{AliasesOf, LiveBelow, LiveOf, Sought, first_alias};
 use crate::values::{Draft, Tree, Value};
 use host_names::{AliasName, Cell, CellRef, Digest, FilePath, SiteName};
 use persistent_maps::{Range, SharedMap};
@@ -40,7 +40,7 @@ impl Model for State {
 impl State {
     ghost use Rattle.site_state.specs.Aliases.{alias_for};
     ghost use Rattle.site_state.specs.Deploys.{listed_at};
-    ghost use Rattle.site_state.specs.States.{live_at, kept_at, alias_at, alias_entries, draft_at, live_entries, AreOfKind, is_of_kind, may_stand, with_cell, with_cells};
+    ghost use Rattle.site_state.specs.States.{live_at, kept_at, alias_at, alias_entries, draft_at, entries_below, live_entries, AreOfKind, is_of_kind, may_stand, with_cell, with_cells};
 
     /// A state with nothing in it.
     pub fn new(alloc: Global) -> State
@@ -83,6 +83,13 @@ impl State {
         ensures { result ≡ live_entries self.now site.now }
     {
         self.cells.range(&LiveOf(site))
+    }
+
+    /// The files that a site serves below a folder, each in its cell, by path. They are side by side.
+    pub fn below(&self, site: &SiteName, folder: &FilePath) -> Range<'_, Cell, Value>
+        ensures { result ≡ entries_below self.now site.now folder.now }
+    {
+        self.cells.range(&LiveBelow(site, folder))
     }
 
     /// The files of the deploy that is kept under a number.

@@ -3,3 +3,4 @@ pub mod Keys
 pub mod Postings
 pub mod PostingOrder
 pub mod Next
+pub mod Found

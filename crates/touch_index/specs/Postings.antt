@@ -1,5 +1,5 @@
 -- Postings: which changes are posted under which keys, as pairs in their order.
-use Rattle.std.specs.Prelude.{◌≡◌, ℕ, ◌==◌, nat_lt, nat_le, Bool, ◌&&◌, ◌||◌, List, map, Option, is_some, if◌then◌else◌}
+use Rattle.std.specs.Prelude.{◌≡◌, ◌⊎◌, ℕ, ◌==◌, nat_lt, nat_le, Bool, ◌&&◌, ◌||◌, List, map, take, Option, is_some, if◌then◌else◌}
 use Rattle.std.specs.FinMap.{find}
 use Rattle.std.specs.List.{list_any}
 use Rattle.std.specs.List.Sorted.{IsStrictlySortedBy}
@@ -7,9 +7,10 @@ use Rattle.std.specs.Map.{keys_of}
 use Rattle.std.specs.declared.cmp.Ordering.{Ordering}
 use Rattle.std.specs.Ordering.{nat_cmp, on, then_cmp}
 use Rattle.host_names.specs.declared.cells.Cell.{Cell}
+use Rattle.host_names.specs.declared.cells.Cell.TheVariants as cell
 use Rattle.site_state.specs.declared.changes.Change.{Change}
 use Rattle.touch_index.specs.declared.postings.Posting.{Posting}
-use Rattle.touch_index.specs.Keys.{covering, wildcards}
+use Rattle.touch_index.specs.Keys.{covers, folder_marks, is_in_folder, is_in_folder_from, wildcards}
 
 -- by key, then by number
 abbrev pub posting_cmp : Posting → Posting → Ordering
@@ -37,9 +38,26 @@ is_under postings keys n = list_any (λ key. is_posted postings key n) keys
 abbrev pub is_under_wildcards : Postings → Cell → ℕ → Bool
 is_under_wildcards postings c n = is_under postings (wildcards c) n
 
--- whether it is posted under a key that covers the cell of one of these changes
+-- whether it is posted under the mark of the cell's site
+abbrev pub is_under_marks : Postings → Cell → ℕ → Bool
+is_under_marks postings c n = is_under postings (folder_marks c) n
+
+-- whether it is posted so that it may touch a folder that the cell is below
+abbrev pub is_under_folders : Postings → Cell → ℕ → Bool
+is_under_folders postings c n = is_in_folder (λ key. is_posted postings key n) c
+
+-- the same of those folders alone that have at least so many bytes
+abbrev pub is_under_folders_from : Postings → Cell → ℕ → ℕ → Bool
+is_under_folders_from postings c first n = is_in_folder_from (λ key. is_posted postings key n) c first
+
+-- so many bytes at the front of the cell's path are at the front of the other's too, which is of the same site; or they are none
+abbrev pub SharesFront : ℕ → Cell → Cell → Type 0
+SharesFront n (cell.Live site path) (cell.Live other longer) = (n ≡ 0) ⊎ ((site ≡ other) × (take n path ≡ take n longer))
+SharesFront n c d = n ≡ 0
+
+-- whether it is posted so that it may touch the cell of one of these changes
 abbrev pub may_touch_any : Postings → List Change → ℕ → Bool
-may_touch_any postings changes n = list_any (λ change. is_under postings (covering change.cell) n) changes
+may_touch_any postings changes n = list_any (λ change. covers (λ key. is_posted postings key n) change.cell) changes
 
 -- whether a key is one of these
 abbrev pub is_among : ℕ → List ℕ → Bool

@@ -1,6 +1,7 @@
 //! Postings: under which keys a change is found.
 
-use persistent_maps::Span;
+use persistent_maps::{Probe, Span};
+use std::cmp::Ordering;
 
 /// The change with this number is posted under this key. Postings are ordered by key and then by number, so that the changes under one key
 /// are side by side. A posting takes 16 bytes.
@@ -8,6 +9,14 @@ use persistent_maps::Span;
 pub struct Posting {
     pub key: u64,
     pub number: u64,
+}
+
+impl Probe<Posting> for Posting {
+    ghost sought = { λ p. p };
+
+    fn compare(&self, posting: &Posting) -> Ordering {
+        posting.cmp(self)
+    }
 }
 
 /// The postings under a key of the numbers above this one.

@@ -54,12 +54,12 @@ fn one_path(
     PathMap::from_sorted(alloc, vec![in alloc; (path, listed)]?)
 }
 
-/// A change that names a deploy alone, of the kind that is this digit.
-fn command_on_deploy(site: SiteName, digit: u64, number: u64) -> Command
+/// A change that names a deploy alone, of this kind.
+fn command_on_deploy(site: SiteName, kind: u64, number: u64) -> Command
     requires { IsNumber number }
     ensures { IsCommandInRange result }
 {
-    match digit {
+    match kind {
         2 => Command::Publish { site, number },
         3 => Command::Cancel { site, number },
         8 => Command::Restore { site, number },
@@ -67,12 +67,15 @@ fn command_on_deploy(site: SiteName, digit: u64, number: u64) -> Command
     }
 }
 
-/// The change of a number, of the kind that is its last digit.
+/// How many kinds of entries there are.
+const KINDS: u64 = 11;
+
+/// The change of a number, of the kind that is its remainder.
 fn command(alloc: Global, site: SiteName, number: u64) -> Result<Command>
     ensures { IfOk result (λ command. IsCommandInRange command) }
 {
     let name = AliasName::new("next")?;
-    match number % 10 {
+    match number % KINDS {
         1 => {
             let files = listing(alloc, number)?;
             let auto = number % 3 == 0;
@@ -93,17 +96,22 @@ fn command(alloc: Global, site: SiteName, number: u64) -> Result<Command>
             site,
             path: path(alloc, "a", number)?,
         }),
-        digit => Ok(command_on_deploy(site, digit, in_range(number))),
+        10 => Ok(Command::RenameFolder {
+            site,
+            source: path(alloc, "a", number)?,
+            target: path(alloc, "b", number)?,
+        }),
+        kind => Ok(command_on_deploy(site, kind, in_range(number))),
     }
 }
 
-/// The entry of a number, from 1 on: of the kind that is the number's last digit, an undo where that is 0, in the site `site-` and the number.
+/// The entry of a number, from 1 on: of the kind that is its remainder by 11, an undo where that is 0, in the site `site-` and the number.
 pub(crate) fn numbered(alloc: Global, number: u64) -> Result<Entry>
     ensures { IfOk result (λ entry. IsInRange entry) }
 {
     let name = format!(in alloc; "site-{number}")?;
     let site = SiteName::new(name.as_str())?;
-    if number % 10 == 0 {
+    if number % KINDS == 0 {
         return Ok(Entry::Undo {
             site,
             change: in_range(number),

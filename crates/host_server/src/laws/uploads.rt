@@ -32,8 +32,8 @@ pub fn uploads_are_read_back<S: Shelf, D: Disk>()
     ensures empty { (has : S → ShelfName → Option (List ℕ)) (server : Server S D D.Disk) (limit : ℕ)
         → server.house.uploads ≡ map.empty → server.files.cache ≡ empty limit → HasKnown has server }
     ensures opened { (honest : S → Bool) (has : S → ShelfName → Option (List ℕ)) (first second : D)
-        (shelf : S) (limit : ℕ) (server : Server S D D.Disk) → Keeps S.did honest has → IsTrue (honest server.files.shelf)
-        → IsOpened S.did first second shelf limit server → HasKnown has server }
+        (shelf : S) (limit : ℕ) (server : Server S D D.Disk) → Keeps S.did honest has
+        → IsTrue (honest server.files.shelf) → IsOpened S.did first second shelf limit server → HasKnown has server }
     ensures kept { (honest : S → Bool) (has : S → ShelfName → Option (List ℕ)) (old new : Server S D D.Disk)
         (parts : RequestParts) (body : List ℕ) (answer : Answer) → Keeps S.did honest has
         → IsTrue (honest new.files.shelf) → UploadAgrees old.house.uploads parts body → HasKnown has old

@@ -7,6 +7,6 @@ pub returns : goal.returns
 returns c = record {
   open_gate = gate_open;
   other_gate = gate_not_open;
-  left = λ order log entry a b left. next_holds order log entry a b left.writable (left.one a refl) (left.other b refl);
+  left = λ order log entry a b left. next_holds order log entry a b left.writable left.old (left.one a refl) (left.other b refl);
   turned = turned_entries;
 }

@@ -1,5 +1,6 @@
 use Rattle.std.proofs.Common.{[], ◌∷◌, ◌∙◌, refl, ap, ⊎_elim, arith}
-use Rattle.change_journal.proofs.Entrywise.{held_no_bad, held_no_other, next_holds}
+use Rattle.change_journal.proofs.HeldLawful.{held_no_bad}
+use Rattle.change_journal.proofs.Entrywise.{held_no_other, next_holds}
 use Rattle.change_journal.proofs.HeldLists.{empty_foreign, empty_record, empty_stored, foreign_short, number_none}
 use Rattle.change_journal.proofs.laws.wrong_answers_are_refused.Goals as goal
 
@@ -15,7 +16,7 @@ returns-clause-all_stored g c all = empty_stored (all [] [] tt tt).shut
 pub returns-clause-more : goal.returns-clause-more
 returns-clause-more g c more =
     let file = 1 ∷ (5 ∷ []) in
-    ⊎_elim (λ held. held_no_other _ file file held foreign_short) (λ held. held_no_other _ file file held foreign_short) (next_holds more.order [] more.next file file more.left.writable (more.left.one file tt) (more.left.other file tt))
+    ⊎_elim (λ held. held_no_other _ file file held foreign_short) (λ held. held_no_other _ file file held foreign_short) (next_holds more.order [] more.next file file more.left.writable more.left.old (more.left.one file tt) (more.left.other file tt))
 
 pub returns-clause-no_gate : goal.returns-clause-no_gate
 returns-clause-no_gate g c has = empty_record has

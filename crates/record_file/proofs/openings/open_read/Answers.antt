@@ -6,7 +6,7 @@ use Rattle.record_file.specs.Pairs.{IsBeside, IsEnd, MayLead, first, kept, read}
 use Rattle.record_file.specs.Slots.{header_of, generation_of, new_header}
 use Rattle.record_file.proofs.LookSteps.{front_opened}
 use Rattle.record_file.proofs.OneAnswer.{ended_no_bad, ended_there, some_record}
-use Rattle.record_file.proofs.OpenSteps.{mending_holds, taken_is}
+use Rattle.record_file.proofs.OpenSteps.{are_short, mending_holds, taken_is}
 use Rattle.record_file.proofs.PairSteps.{brought_leads, is_header, ready_on}
 use Rattle.record_file.proofs.Steps.{if_err, if_ok, same_error, same_fault, weaker}
 use Rattle.record_file.proofs.WalkSteps.{nothing_read, read_on}
@@ -76,8 +76,7 @@ returns-clause-opened g c modelled ready has =
     if_ok c.finish.result _ _ (λ position made. record {
       bodies = ended.walked.taken;
       has = ended.walked.has;
-      lawful = ended.walked.lawful;
-      found = read (first (generation_of version) (header_of version) (is_header version) (end.gate, there.ends) ready.below);
+      found = read (first (generation_of version) (header_of version) (is_header version) (ended.walked.lawful, (end.gate, there.ends)) ready.below);
       made = made;
     }) (c.finish.ensures.made modelled ended.walked.taken there_now ready_now)
 
@@ -120,7 +119,7 @@ returns-clause-any_moment g c modelled ready has had body put holds =
     let there = ended_there header _ _ end.position.gate end.position.count end.gate file ended in
     let before = weaker g.D.Disk.moment g.D.Disk.left_since old mid (g.D.Disk.may_leave old) (MayHold header had body) (λ f left. subst (MayHold header had body) (sym (ready.only f left)) holds) reads.time in
     let after = weaker g.D.Disk.moment g.D.Disk.left_since mid c.finish.new.read (IsMending (opened header ended.walked.taken) end.gate there.ends.rest) (MayHold header had body)
-    (mending_holds header g.B.Bodies.is_lawful had body put ended.walked.taken ended.walked.lawful end.gate there.ends.rest file ended.closed there.ends.is holds)
+    (mending_holds header had body put ended.walked.taken (are_short (g.B.Bodies.is_lawful header) ended.walked.taken ended.walked.lawful) end.gate there.ends.rest file ended.closed there.ends.is holds)
     (c.finish.ensures.any_moment modelled ended.walked.taken there.ends.rest there.at_is (reads.same ∙ there.ends.is) (λ f left. ready.only f (reads.crash f left) ∙ sym reads.same)) in
     and_then g.D.Disk.moment g.D.Disk.left_since old mid c.finish.new.read (MayHold header had body) before after
 
@@ -137,7 +136,7 @@ returns-clause-any_moment_beside g c modelled ready has had body put holds =
     let ended = c.in_ok-end.ensures.end modelled ready.size_is (front_opened header file ready.front) has in
     let there = ended_there header _ _ end.position.gate end.position.count end.gate file ended in
     let there_now = subst (IsEnd header ended.walked.taken end.position.gate end.position.count end.gate) (sym reads.same) there in
-    let taken = taken_is header g.B.Bodies.is_lawful had body put ended.walked.taken ended.walked.lawful end.gate there.ends.rest file ended.closed there.ends.is holds in
+    let taken = taken_is header had body put ended.walked.taken (are_short (g.B.Bodies.is_lawful header) ended.walked.taken ended.walked.lawful) end.gate there.ends.rest file ended.closed there.ends.is holds in
     weaker g.D.Disk.moment g.D.Disk.left_since other c.finish.new.other (IsBeside version (λ f. f ≡ opened new_header ended.walked.taken ++ 0 ∷ []) (g.D.Disk.seen other)) (IsBeside version (MayLead 1 had body) (g.D.Disk.seen other))
     (λ f left. brought_leads version had ended.walked.taken body (g.D.Disk.seen other) f taken left)
     (c.finish.ensures.any_moment_beside modelled ended.walked.taken there_now (ready_on g.D.Disk.seen g.D.Disk.may_leave g.D.Disk.moment g.D.Disk.left_since version c.args.size c.args.beside old mid other reads ready))

@@ -24,13 +24,13 @@ pub returns-in-First-clause-refused : goal.returns-in-First-clause-refused
 returns-in-First-clause-refused g c modelled surveyed has refused =
     let leads = rw c.in-First.is at c.requires in
     let ready = first_ready g.D.Disk.seen g.D.Disk.may_leave g.D.Disk.moment g.D.Disk.left_since c.in-First.version c.args.one c.args.other c.args.first.now c.args.second.now leads.0 leads.1 surveyed in
-    ⊎_elim (λ foreign. absurd (surveyed_same c.in-First.version c.args.one.version c.args.other.version (g.D.Disk.seen c.args.first.now) (g.D.Disk.seen c.args.second.now) leads.0 leads.1 surveyed.one_is.use_is surveyed.other_is.use_is foreign)) (λ bad. c.open_read.ensures.refused modelled ready has (bad.0, (reads_lead (λ h f. IsBadRecord h g.B.Bodies.is_lawful bad.0 f) (bad_front g.B.Bodies.is_lawful bad.0) c.in-First.version (g.D.Disk.seen c.args.first.now) (g.D.Disk.seen c.args.second.now) ready.front ready.below bad.1))) refused
+    ⊎_elim (λ foreign. absurd (surveyed_same c.in-First.version c.args.one.version c.args.other.version (g.D.Disk.seen c.args.first.now) (g.D.Disk.seen c.args.second.now) leads.0 leads.1 surveyed.one_is.use_is surveyed.other_is.use_is foreign)) (λ bad. c.open_read.ensures.refused modelled ready has (bad.0, (reads_lead (λ h f. IsBadRecord h (g.B.Bodies.is_lawful h) bad.0 f) (λ h. bad_front (g.B.Bodies.is_lawful h) bad.0 h) c.in-First.version (g.D.Disk.seen c.args.first.now) (g.D.Disk.seen c.args.second.now) ready.front ready.below bad.1))) refused
 
 pub returns-in-First-clause-reason : goal.returns-in-First-clause-reason
 returns-in-First-clause-reason g c modelled surveyed has refused told =
     let leads = rw c.in-First.is at c.requires in
     let ready = first_ready g.D.Disk.seen g.D.Disk.may_leave g.D.Disk.moment g.D.Disk.left_since c.in-First.version c.args.one c.args.other c.args.first.now c.args.second.now leads.0 leads.1 surveyed in
-    ⊎_elim (λ foreign. absurd (surveyed_same c.in-First.version c.args.one.version c.args.other.version (g.D.Disk.seen c.args.first.now) (g.D.Disk.seen c.args.second.now) leads.0 leads.1 surveyed.one_is.use_is surveyed.other_is.use_is foreign)) (λ bad. inl (c.open_read.ensures.reason modelled ready has (bad.0, (reads_lead (λ h f. IsBadRecord h g.B.Bodies.is_lawful bad.0 f) (bad_front g.B.Bodies.is_lawful bad.0) c.in-First.version (g.D.Disk.seen c.args.first.now) (g.D.Disk.seen c.args.second.now) ready.front ready.below bad.1)) told)) refused
+    ⊎_elim (λ foreign. absurd (surveyed_same c.in-First.version c.args.one.version c.args.other.version (g.D.Disk.seen c.args.first.now) (g.D.Disk.seen c.args.second.now) leads.0 leads.1 surveyed.one_is.use_is surveyed.other_is.use_is foreign)) (λ bad. inl (c.open_read.ensures.reason modelled ready has (bad.0, (reads_lead (λ h f. IsBadRecord h (g.B.Bodies.is_lawful h) bad.0 f) (λ h. bad_front (g.B.Bodies.is_lawful h) bad.0 h) c.in-First.version (g.D.Disk.seen c.args.first.now) (g.D.Disk.seen c.args.second.now) ready.front ready.below bad.1)) told)) refused
 
 pub returns-in-First-clause-any_moment : goal.returns-in-First-clause-any_moment
 returns-in-First-clause-any_moment g c modelled surveyed has order had body put one other =
@@ -80,13 +80,13 @@ pub returns-in-Second-clause-refused : goal.returns-in-Second-clause-refused
 returns-in-Second-clause-refused g c modelled surveyed has refused =
     let leads = rw c.in-Second.is at c.requires in
     let ready = second_ready g.D.Disk.seen g.D.Disk.may_leave g.D.Disk.moment g.D.Disk.left_since c.in-Second.version c.args.one c.args.other c.args.first.now c.args.second.now leads.0 leads.1 surveyed in
-    ⊎_elim (λ foreign. absurd (surveyed_same c.in-Second.version c.args.other.version c.args.one.version (g.D.Disk.seen c.args.second.now) (g.D.Disk.seen c.args.first.now) leads.0 leads.1 surveyed.other_is.use_is surveyed.one_is.use_is (turned_foreign _ _ foreign))) (λ bad. let both = c.open_read-in-Second.ensures.refused modelled ready has (bad.0, (reads_lead (λ h f. IsBadRecord h g.B.Bodies.is_lawful bad.0 f) (bad_front g.B.Bodies.is_lawful bad.0) c.in-Second.version (g.D.Disk.seen c.args.second.now) (g.D.Disk.seen c.args.first.now) ready.front ready.below (turned_reads _ _ _ bad.1))) in record { one = both.other; other = both.one }) refused
+    ⊎_elim (λ foreign. absurd (surveyed_same c.in-Second.version c.args.other.version c.args.one.version (g.D.Disk.seen c.args.second.now) (g.D.Disk.seen c.args.first.now) leads.0 leads.1 surveyed.other_is.use_is surveyed.one_is.use_is (turned_foreign _ _ foreign))) (λ bad. let both = c.open_read-in-Second.ensures.refused modelled ready has (bad.0, (reads_lead (λ h f. IsBadRecord h (g.B.Bodies.is_lawful h) bad.0 f) (λ h. bad_front (g.B.Bodies.is_lawful h) bad.0 h) c.in-Second.version (g.D.Disk.seen c.args.second.now) (g.D.Disk.seen c.args.first.now) ready.front ready.below (turned_reads _ _ _ bad.1))) in record { one = both.other; other = both.one }) refused
 
 pub returns-in-Second-clause-reason : goal.returns-in-Second-clause-reason
 returns-in-Second-clause-reason g c modelled surveyed has refused told =
     let leads = rw c.in-Second.is at c.requires in
     let ready = second_ready g.D.Disk.seen g.D.Disk.may_leave g.D.Disk.moment g.D.Disk.left_since c.in-Second.version c.args.one c.args.other c.args.first.now c.args.second.now leads.0 leads.1 surveyed in
-    ⊎_elim (λ foreign. absurd (surveyed_same c.in-Second.version c.args.other.version c.args.one.version (g.D.Disk.seen c.args.second.now) (g.D.Disk.seen c.args.first.now) leads.0 leads.1 surveyed.other_is.use_is surveyed.one_is.use_is (turned_foreign _ _ foreign))) (λ bad. inr (c.open_read-in-Second.ensures.reason modelled ready has (bad.0, (reads_lead (λ h f. IsBadRecord h g.B.Bodies.is_lawful bad.0 f) (bad_front g.B.Bodies.is_lawful bad.0) c.in-Second.version (g.D.Disk.seen c.args.second.now) (g.D.Disk.seen c.args.first.now) ready.front ready.below (turned_reads _ _ _ bad.1))) told)) refused
+    ⊎_elim (λ foreign. absurd (surveyed_same c.in-Second.version c.args.other.version c.args.one.version (g.D.Disk.seen c.args.second.now) (g.D.Disk.seen c.args.first.now) leads.0 leads.1 surveyed.other_is.use_is surveyed.one_is.use_is (turned_foreign _ _ foreign))) (λ bad. inr (c.open_read-in-Second.ensures.reason modelled ready has (bad.0, (reads_lead (λ h f. IsBadRecord h (g.B.Bodies.is_lawful h) bad.0 f) (λ h. bad_front (g.B.Bodies.is_lawful h) bad.0 h) c.in-Second.version (g.D.Disk.seen c.args.second.now) (g.D.Disk.seen c.args.first.now) ready.front ready.below (turned_reads _ _ _ bad.1))) told)) refused
 
 pub returns-in-Second-clause-any_moment : goal.returns-in-Second-clause-any_moment
 returns-in-Second-clause-any_moment g c modelled surveyed has order had body put one other =
@@ -129,7 +129,6 @@ returns-in-Neither-clause-opened g c modelled surveyed has =
     rw c.in-Neither.is (if_ok c.open_neither.result _ _ (λ position made. record {
       bodies = [];
       has = has;
-      lawful = λ k d low. absurd (omega (arith, low));
       found = none refl one_unused other_unused;
       made = made;
     }) (c.open_neither.ensures.made modelled surveyed.one_is.size_is surveyed.one_only))

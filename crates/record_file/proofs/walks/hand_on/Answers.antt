@@ -18,5 +18,5 @@ returns-in_err-take_body-clause-bad g c modelled size had has =
     same_fault c.from_residual-in_err-take_body.result c.in_err-take_body.field-0.0 _ c.from_residual-in_err-take_body.ensures.1 (λ i fault. (
       c.in_err-take_body.ensures.number i fault,
       gate ∙ ap (λ (n : ℕ). n ∷ drop (at + 1) file) opens,
-      inl (unlawful (g.B.Bodies.is_lawful had) (drop (at + 1) file) body _ there c.in_ok-read_record.ensures.short (λ lawful. c.in_err-take_body.ensures.bad had has i fault (subst (g.B.Bodies.is_lawful had) (sym read) lawful))),
+      inl (unlawful (g.B.Bodies.is_lawful c.args.header.now had) (drop (at + 1) file) body _ there c.in_ok-read_record.ensures.short (λ lawful. c.in_err-take_body.ensures.bad had has i fault (subst (g.B.Bodies.is_lawful c.args.header.now had) (sym read) lawful))),
     ))

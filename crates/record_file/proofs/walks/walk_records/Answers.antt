@@ -14,7 +14,7 @@ loop-body-init g c = record {
   same = λ modelled. nothing_read g.D.Disk.seen g.D.Disk.may_leave g.D.Disk.moment g.D.Disk.left_since c.args.disk.now (λ f left. g.met.D.Disk.only_now c.args.disk.now f modelled left);
   counted = refl;
   taken = λ has. record { taken = []; has = has; count_is = c.first-position.ensures.1 };
-  walked = λ modelled opens has. walk_starts c.args.header.now (g.B.Bodies.has c.args.bodies.now) g.B.Bodies.is_lawful c.first-position.result.gate c.first-position.result.count (g.D.Disk.seen c.args.disk.now) c.first-position.ensures.0 c.first-position.ensures.1 opens has;
+  walked = λ modelled opens has. walk_starts c.args.header.now (g.B.Bodies.has c.args.bodies.now) (g.B.Bodies.is_lawful c.args.header.now) c.first-position.result.gate c.first-position.result.count (g.D.Disk.seen c.args.disk.now) c.first-position.ensures.0 c.first-position.ensures.1 opens has;
 }
 
 pub returns-in_err-gate-clause-bad : goal.returns-in_err-gate-clause-bad
@@ -24,9 +24,9 @@ returns-in_err-gate-clause-bad g c modelled size opens has =
     same_fault c.from_residual.result c.in_err-gate.field-0.0 _ c.from_residual.ensures.1 (λ i fault.
     let walked = c.loop-body.invariant.walked modelled opens has in
     let bad = c.in_err-gate.ensures.bad modelled (size ∙ sym (ap length same)) walked.taken walked.has i fault in
-    walk_breaks c.args.header.now (g.B.Bodies.has c.loop-body.bodies) g.B.Bodies.is_lawful c.loop-body.position.gate c.loop-body.position.count i file walked c.loop-body.position.few
+    walk_breaks c.args.header.now (g.B.Bodies.has c.loop-body.bodies) (g.B.Bodies.is_lawful c.args.header.now) c.loop-body.position.gate c.loop-body.position.count i file walked c.loop-body.position.few
     (subst (λ f. drop c.loop-body.position.gate f ≡ 1 ∷ drop (c.loop-body.position.gate + 1) f) same bad.1) bad.0
-    (subst (λ f. IsNoRecord (g.B.Bodies.is_lawful walked.taken) (drop (c.loop-body.position.gate + 1) f) ⊎ (1000000 ≤ c.loop-body.position.count)) same bad.2))
+    (subst (λ f. IsNoRecord (g.B.Bodies.is_lawful c.args.header.now walked.taken) (drop (c.loop-body.position.gate + 1) f) ⊎ (1000000 ≤ c.loop-body.position.count)) same bad.2))
 
 pub returns-in_err-gate-clause-memory : goal.returns-in_err-gate-clause-memory
 returns-in_err-gate-clause-memory g c modelled opens has out =
@@ -49,7 +49,7 @@ returns-in-Some-clause-end g c modelled size opens has =
     let end = rw c.in-Some.is at (c.in_ok-gate.ensures.end modelled) in
     let stays : c.hand_on.new.bodies ≡ c.loop-body.bodies = rw c.in-Some.is at c.in_ok-gate.ensures.stays in
     record {
-      walked = subst (λ b. HasWalked c.args.header.now (g.B.Bodies.has b) g.B.Bodies.is_lawful at c.loop-body.position.count (g.D.Disk.seen c.args.disk.now)) (sym stays) (c.loop-body.invariant.walked modelled opens has);
+      walked = subst (λ b. HasWalked c.args.header.now (g.B.Bodies.has b) (g.B.Bodies.is_lawful c.args.header.now) at c.loop-body.position.count (g.D.Disk.seen c.args.disk.now)) (sym stays) (c.loop-body.invariant.walked modelled opens has);
       closed = end.0;
       is = subst (λ f. drop at f ≡ c.in-Some.gate ∷ drop (at + 1) f) same end.1;
     }
@@ -87,7 +87,7 @@ loop-body-preserved g c =
       walked = λ modelled opens has.
           let same = (inv.same modelled).same in
           let walked = inv.walked modelled opens has in
-          walk_goes c.args.header.now (g.B.Bodies.has c.loop-body.bodies) (g.B.Bodies.has c.hand_on.new.bodies) g.B.Bodies.is_lawful at c.loop-body.position.count body (g.D.Disk.seen c.args.disk.now) walked
+          walk_goes c.args.header.now (g.B.Bodies.has c.loop-body.bodies) (g.B.Bodies.has c.hand_on.new.bodies) (g.B.Bodies.is_lawful c.args.header.now) at c.loop-body.position.count body (g.D.Disk.seen c.args.disk.now) walked
           (subst (λ f. drop at f ≡ 1 ∷ (framed body ++ drop (at + 5 + length body) f)) same (c.in_ok-gate.ensures.open modelled none))
           (c.in_ok-gate.ensures.taken walked.taken walked.has none) (c.in_ok-gate.ensures.short none, c.in_ok-gate.ensures.lawful walked.taken walked.has none) c.after-position.result.gate c.after-position.result.count next c.after-position.ensures.count;
     }

@@ -10,7 +10,7 @@ invariant-loop-body g l = record {
   same : IsTrue g.D.Disk.is_modelled → IsOnlyRead g.D.Disk.seen g.D.Disk.may_leave g.D.Disk.moment g.D.Disk.left_since l.fn.disk l.disk;
   counted : g.D.Disk.faults l.disk ≡ g.D.Disk.faults l.fn.disk;
   taken : g.B.Bodies.has l.fn.bodies [] → HasCounted (g.B.Bodies.has l.bodies) l.position.count;
-  walked : IsTrue g.D.Disk.is_modelled → IsOpened l.fn.header (g.D.Disk.seen l.fn.disk) → g.B.Bodies.has l.fn.bodies [] → HasWalked l.fn.header (g.B.Bodies.has l.bodies) g.B.Bodies.is_lawful l.position.gate l.position.count (g.D.Disk.seen l.fn.disk);
+  walked : IsTrue g.D.Disk.is_modelled → IsOpened l.fn.header (g.D.Disk.seen l.fn.disk) → g.B.Bodies.has l.fn.bodies [] → HasWalked l.fn.header (g.B.Bodies.has l.bodies) (g.B.Bodies.is_lawful l.fn.header) l.position.gate l.position.count (g.D.Disk.seen l.fn.disk);
 }
 
 abbrev pub decreases-loop-body : goal.decreases-loop-body

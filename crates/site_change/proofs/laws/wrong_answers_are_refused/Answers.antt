@@ -1,4 +1,4 @@
-use Rattle.std.proofs.Common.{◌≡◌, ℕ, Bool, true, false, not, cond, List, Option, Some, None, sym, ap, subst, refl, ◌∙◌, arith}
+use Rattle.std.proofs.Common.{◌≡◌, ℕ, Bool, true, false, not, cond, List, ◌∷◌, ◌++◌, Option, Some, None, sym, ap, subst, refl, ◌∙◌, arith}
 use Rattle.std.specs.FinMap as map
 use Rattle.std.specs.Ordering.{eq_by_cmp}
 use Rattle.std.proofs.lemmas.Cmp.{eq_by_cmp_equiv}
@@ -45,6 +45,10 @@ returns-clause-patch c site m uploads files before after v leaves = absurd (cc (
 
 pub returns-clause-deploy : goal.returns-clause-deploy
 returns-clause-deploy c site m uploads files before after v leaves = absurd (cc (sym (there after (cell.Draft site m) v) ∙ leaves.draft))
+
+pub returns-clause-folder : goal.returns-clause-folder
+returns-clause-folder c site source target rest before after v leaves =
+    absurd (cc (sym (there after (cell.Live site (source ++ 47 ∷ rest)) v) ∙ leaves.emptied rest))
 
 pub returns-clause-agree : goal.returns-clause-agree
 returns-clause-agree c state at v none agree = absurd (cc (sym (there state at v) ∙ (agree at refl ∙ none)))

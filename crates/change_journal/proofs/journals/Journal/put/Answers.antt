@@ -5,7 +5,7 @@ use Rattle.change_journal.specs.Held.{entries_of}
 use Rattle.change_journal.specs.declared.held.Held.{Held}
 use Rattle.record_file.specs.declared.positions.Position.{Position}
 use Rattle.record_file.specs.Pairs.{first_of, order_of, second_of}
-use Rattle.change_journal.proofs.JournalSteps.{all_stored, record_length, next_moments, held_moments, sound_with, torn_put}
+use Rattle.change_journal.proofs.JournalSteps.{all_stored, record_length, next_moments, held_moments, order_new, sound_with, torn_put}
 use Rattle.change_journal.proofs.journals.Journal.put.Goals as goal
 
 pub put-requires-clause-long : goal.put-requires-clause-long
@@ -15,16 +15,16 @@ pub put-requires-clause-short : goal.put-requires-clause-short
 put-requires-clause-short g c = (record_length c.args.prepared c.bytes.result.now c.bytes.ensures).1
 
 pub returns-in_err-put-clause-any_moment : goal.returns-in_err-put-clause-any_moment
-returns-in_err-put-clause-any_moment g c = rw (← c.self.view_is) (λ modelled whole. next_moments g.D.Disk.moment g.D.Disk.left_since g.D.Disk.may_leave (order_of c.self.inside.slots.turned) (first_of c.self.inside.slots) (second_of c.self.inside.slots) (first_of c.put.new.self) (second_of c.put.new.self) _ c.args.prepared c.self.invariant.writable c.bytes.ensures.writable (c.put.ensures.any_moment modelled _ _ c.bytes.ensures.is (c.self.invariant.settled modelled whole)))
+returns-in_err-put-clause-any_moment g c = rw (← c.self.view_is) (λ modelled whole. next_moments g.D.Disk.moment g.D.Disk.left_since g.D.Disk.may_leave (order_of c.self.inside.slots.turned) (first_of c.self.inside.slots) (second_of c.self.inside.slots) (first_of c.put.new.self) (second_of c.put.new.self) _ c.args.prepared c.self.invariant.writable c.bytes.ensures.writable (order_new c.self.inside.slots.turned) (c.put.ensures.any_moment modelled _ _ c.bytes.ensures.is (c.self.invariant.settled modelled whole)))
 
 pub returns-in_err-put-clause-held : goal.returns-in_err-put-clause-held
-returns-in_err-put-clause-held g c = rw (← c.self.view_is) (λ modelled whole. held_moments g.D.Disk.moment g.D.Disk.left_since g.D.Disk.may_leave (order_of c.self.inside.slots.turned) (first_of c.self.inside.slots) (second_of c.self.inside.slots) (first_of c.put.new.self) (second_of c.put.new.self) _ c.args.prepared c.self.invariant.writable c.bytes.ensures.writable (c.put.ensures.any_moment modelled _ _ c.bytes.ensures.is (c.self.invariant.settled modelled whole)))
+returns-in_err-put-clause-held g c = rw (← c.self.view_is) (λ modelled whole. held_moments g.D.Disk.moment g.D.Disk.left_since g.D.Disk.may_leave (order_of c.self.inside.slots.turned) (first_of c.self.inside.slots) (second_of c.self.inside.slots) (first_of c.put.new.self) (second_of c.put.new.self) _ c.args.prepared c.self.invariant.writable c.bytes.ensures.writable (order_new c.self.inside.slots.turned) (c.put.ensures.any_moment modelled _ _ c.bytes.ensures.is (c.self.invariant.settled modelled whole)))
 
 pub returns-clause-any_moment : goal.returns-clause-any_moment
-returns-clause-any_moment g c = rw (← c.self.view_is) (λ modelled whole. next_moments g.D.Disk.moment g.D.Disk.left_since g.D.Disk.may_leave (order_of c.self.inside.slots.turned) (first_of c.self.inside.slots) (second_of c.self.inside.slots) (first_of c.put.new.self) (second_of c.put.new.self) _ c.args.prepared c.self.invariant.writable c.bytes.ensures.writable (c.put.ensures.any_moment modelled _ _ c.bytes.ensures.is (c.self.invariant.settled modelled whole)))
+returns-clause-any_moment g c = rw (← c.self.view_is) (λ modelled whole. next_moments g.D.Disk.moment g.D.Disk.left_since g.D.Disk.may_leave (order_of c.self.inside.slots.turned) (first_of c.self.inside.slots) (second_of c.self.inside.slots) (first_of c.put.new.self) (second_of c.put.new.self) _ c.args.prepared c.self.invariant.writable c.bytes.ensures.writable (order_new c.self.inside.slots.turned) (c.put.ensures.any_moment modelled _ _ c.bytes.ensures.is (c.self.invariant.settled modelled whole)))
 
 pub returns-clause-held : goal.returns-clause-held
-returns-clause-held g c = rw (← c.self.view_is) (λ modelled whole. held_moments g.D.Disk.moment g.D.Disk.left_since g.D.Disk.may_leave (order_of c.self.inside.slots.turned) (first_of c.self.inside.slots) (second_of c.self.inside.slots) (first_of c.put.new.self) (second_of c.put.new.self) _ c.args.prepared c.self.invariant.writable c.bytes.ensures.writable (c.put.ensures.any_moment modelled _ _ c.bytes.ensures.is (c.self.invariant.settled modelled whole)))
+returns-clause-held g c = rw (← c.self.view_is) (λ modelled whole. held_moments g.D.Disk.moment g.D.Disk.left_since g.D.Disk.may_leave (order_of c.self.inside.slots.turned) (first_of c.self.inside.slots) (second_of c.self.inside.slots) (first_of c.put.new.self) (second_of c.put.new.self) _ c.args.prepared c.self.invariant.writable c.bytes.ensures.writable (order_new c.self.inside.slots.turned) (c.put.ensures.any_moment modelled _ _ c.bytes.ensures.is (c.self.invariant.settled modelled whole)))
 
 pub invariant_of-self : goal.invariant_of-self
 invariant_of-self g c =

@@ -18,4 +18,6 @@ returns-clause-asks g c =
     (subst (λ (l : Log). AnswersOnce (IsGuestAnswer did) c.take_note.new.self l) (sym c.give_note.ensures) c.go_on-progress.ensures.asks)
 
 pub returns-clause-later : goal.returns-clause-later
-returns-clause-later g c = λ is. c.give_note.ensures ∙ (c.go_on-progress.ensures.later is).1 ∙ c.take_note.ensures
+returns-clause-later g c = λ is.
+    let left = c.go_on-progress.ensures.later is in
+    (left.0, c.give_note.ensures ∙ left.1 ∙ c.take_note.ensures)

@@ -1,0 +1,9 @@
+//! What a node knows of the system: a listener, the sockets of its clients, and the sets that its workers wait on.
+#![tactic(auto)]
+
+mod ready_sets;
+mod tcp;
+mod traits;
+
+pub use ready_sets::ReadySet;
+pub use traits::{ClientSocket, Listener, NotAccepted, Ready, SocketSet, Told, Waits};
