@@ -30,7 +30,7 @@ LOG = OUT / "build.log"
 COPY = OUT / "build"
 MADE = COPY / "crates/filehost/out/filehost"
 # How many seconds of a processor the proof of each crate takes, and how many pass meanwhile: as measured, and as this build finds them.
-MEASURED = TOP / "docs/build-seconds.txt"
+MEASURED = TOP / "scripts/build-seconds.txt"
 FOUND = OUT / "build-seconds.txt"
 HEAD = "# crate, seconds of a processor that its proof took, seconds that passed meanwhile\n"
 SOURCES = ("src", "specs", "proofs")

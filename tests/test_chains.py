@@ -1,4 +1,4 @@
-"""What a reader of a contract has to read (scripts/chain): as much as docs/chains.txt says, and what is defined there."""
+"""What a reader of a contract has to read (scripts/chain): as much as scripts/chains.txt says, and what is defined there."""
 
 import pathlib
 import re
@@ -118,7 +118,7 @@ class OfASmallRepository(unittest.TestCase):
 
 class OfThisRepository(unittest.TestCase):
     def rows(self):
-        lines = (TOP / "docs" / "chains.txt").read_text().splitlines()
+        lines = (TOP / "scripts" / "chains.txt").read_text().splitlines()
         return [line.split() for line in lines if line and not line.startswith("#")]
 
     def test_is_as_long_as_is_written_down(self):
@@ -130,14 +130,14 @@ class OfThisRepository(unittest.TestCase):
                 self.assertEqual(len(chain), int(counts[0]))
 
     def test_is_told_by_subject(self):
-        rows = re.findall(r"^\| [^|]+ \| (\d+) \| (\d+) \| [^|]+ \| ([^|]+) \|$", (TOP / "docs/CHAIN.md").read_text(), re.MULTILINE)
+        rows = re.findall(r"^\| [^|]+ \| (\d+) \| (\d+) \| [^|]+ \| ([^|]+) \|$", (TOP / "docs/TRUST.md").read_text(), re.MULTILINE)
         owners = {file: number for number, (*_, files) in enumerate(rows) for file in re.findall(r"`([\w/]+)`", files)}
         printed = subprocess.run([TOP / "scripts/chain", "host_server", "run_solo"], capture_output=True, text=True, timeout=60, check=True)
         counted = [[0, 0] for _ in rows]
         for line in printed.stdout.splitlines()[:-1]:
             file, _, lines = line.split()
             named = [owner for owner in owners if f"{file.removesuffix('.antt')}/".startswith(f"{owner}/")]
-            self.assertTrue(named, f"docs/CHAIN.md names no subject of {file}")
+            self.assertTrue(named, f"docs/TRUST.md names no subject of {file}")
             counts = counted[owners[max(named, key=len)]]
             counts[0] += 1
             counts[1] += int(lines)

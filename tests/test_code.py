@@ -5,6 +5,7 @@ import builtins
 import re
 import shutil
 import subprocess
+import sys
 import unittest
 
 from lib.repository import TOP, crates
@@ -159,6 +160,15 @@ class Scripts(unittest.TestCase):
         if pyflakes := shutil.which("pyflakes3") or shutil.which("pyflakes"):
             ran = subprocess.run([pyflakes, *self.python], capture_output=True, text=True)
             self.assertEqual(ran.stdout + ran.stderr, "")
+
+    def test_shell_scripts_pass_shellcheck(self):
+        """Where shellcheck isn't installed, the test says so and passes."""
+        self.assertLessEqual({"filehost", "test", "build", "install", "program_sources.sh"}, {file.name for file in self.shell})
+        if not (shellcheck := shutil.which("shellcheck")):
+            print("shellcheck isn't installed: it looked at no shell script", file=sys.stderr)
+            return
+        ran = subprocess.run([shellcheck, "-x", "-s", "bash", *self.shell, TOP / ".ci/run"], cwd=TOP, capture_output=True, text=True)
+        self.assertEqual((ran.returncode, ran.stdout + ran.stderr), (0, ""))
 
     def test_finds_names_that_are_not_there_and_imports_that_nothing_uses(self):
         text = "import os, sys as system\nfrom a import b as c, d\ndef f(x, *y, z=1):\n    global g\n    g = [w for w in x]\n    return len(y) + d.e + h\n"

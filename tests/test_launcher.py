@@ -142,7 +142,7 @@ class Launcher(unittest.TestCase):
 
     def test_prints_a_line_a_crate_where_nobody_looks_at_a_terminal(self):
         self.sandbox.add_crates(CRATES)
-        self.sandbox.write("docs/build-seconds.txt", "# crate, ..\nlow 10 5\nmiddle 20 9\nupper 30 7\nfilehost 40 8\nother 99 99\n")
+        self.sandbox.write("scripts/build-seconds.txt", "# crate, ..\nlow 10 5\nmiddle 20 9\nupper 30 7\nfilehost 40 8\nother 99 99\n")
         _, out, err = self.call()
         self.assertNotIn("proved", out)
         share = {"low": 10, "middle": 30, "upper": 60, "filehost": 100}
@@ -161,7 +161,7 @@ class Launcher(unittest.TestCase):
         """That is 1.15 times what its longest chain of crates lasts, or all its work on this number of processors."""
         self.sandbox.add_crates(SIDE_BY_SIDE)
         seconds = {"low": (600, 600), "left": (1200, 1200), "right": (1200, 1200), "upper": (600, 600), "filehost": (600, 600)}
-        self.sandbox.write("docs/build-seconds.txt", "".join(f"{name} {work} {time}\n" for name, (work, time) in seconds.items()))
+        self.sandbox.write("scripts/build-seconds.txt", "".join(f"{name} {work} {time}\n" for name, (work, time) in seconds.items()))
         for processors, minutes in ((1, 81), (2, 58), (4, 58)):
             self.set_processors(processors)
             self.sandbox.write("crates/low/src/lib.rt", str(processors))
@@ -181,14 +181,14 @@ class Launcher(unittest.TestCase):
         self.assertGreater(int(took.pop("left")), 0)
         self.assertEqual(took, dict.fromkeys(("low", "right", "upper", "filehost"), "0"))
         rows = (self.sandbox.top / "crates/filehost/out/build-seconds.txt").read_text().splitlines()
-        self.assertEqual(rows[0], (TOP / "docs" / "build-seconds.txt").read_text().splitlines()[0])
+        self.assertEqual(rows[0], (TOP / "scripts" / "build-seconds.txt").read_text().splitlines()[0])
         self.assertEqual([row.split()[0] for row in rows[1:]], ["filehost", "upper", "left", "right", "low"])
         for row in rows[1:]:
             self.assertRegex(row, r"^\w+ \d+ \d+$")
 
     def test_shows_on_a_terminal_how_far_a_build_is(self):
         self.sandbox.add_crates("filehost: low\nlow:\n")
-        self.sandbox.write("docs/build-seconds.txt", "low 80 5\nfilehost 20 5\n")
+        self.sandbox.write("scripts/build-seconds.txt", "low 80 5\nfilehost 20 5\n")
         near, far = pty.openpty()
         building = self.start(stdout=subprocess.DEVNULL, stderr=far, HOLD_OF_low=self.hold(), SECONDS_OF_filehost="1.5", SECONDS_TO_PROGRESS="0.2")
         os.close(far)

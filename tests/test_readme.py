@@ -1,4 +1,4 @@
-"""README.md: each command that it shows is run, in order, and each reply that it shows is what the program answers.
+"""README.md, and what other pages show of first steps: each command is run, in order, and each reply that is shown is what the program answers.
 
 The commands run in a copy of the sources with the executable that is there. The toolchain is a stand-in, so that nothing is proved or built.
 """
@@ -29,7 +29,7 @@ TESTS = "print('the tests')\nprint('2 passed, 0 failed')\n"
 
 
 def left_out(folder, names):
-    """What of a folder is no source: what git, rt and Python keep, and the store that README.md makes at the top."""
+    """What of a folder is no source: what git, rt and Python keep, and the stores that the pages make at the top."""
     return {".git", "out", "__pycache__"} | ({"store", "site-store", "my-site", "DIR"} if pathlib.Path(folder) == TOP else set())
 
 
@@ -68,8 +68,19 @@ def is_shown_as(shown, body):
     return re.fullmatch(".*".join(map(re.escape, shown.split(".."))), body.strip(), re.DOTALL) is not None
 
 
+def section(title, *path):
+    """A section of a page."""
+    found = read(*path).partition(f"\n## {title}\n")[2].partition("\n## ")[0]
+    assert found, title
+    return found
+
+
 class Readme(Program):
-    text = read("README.md")
+    """The first run and a request by hand are in examples/README.md, a store in a folder in docs/OPERATING.md, and a deploy by curl in docs/HTTP.md."""
+
+    first_run = section("The first run", "examples", "README.md")
+    by_curl = section("What to write in a client", "docs", "HTTP.md")
+    text = "\n".join([read("README.md"), first_run, section("Keep a host in a folder", "docs", "OPERATING.md")])
 
     def setUp(self):
         super().setUp()
@@ -136,6 +147,21 @@ class Readme(Program):
         started.wait(SECONDS)
         return told
 
+    def test_shows_a_script_that_listens(self):
+        """examples/README.md shows it, and it gives its client what the program gives by itself."""
+        command, = re.findall(r"(?m)^    (examples/listen --port .*)$", read("examples", "README.md"))
+        command = command.replace("STORE", "DIR")
+        self.run_to_its_end("./filehost solo --store DIR < examples/take-back.http")
+        self.assertEqual(self.listen(command), self.run_to_its_end("printf 'GET /s/one/ HTTP/1.1\\n\\n' | ./filehost solo --store DIR"))
+
+    def test_shows_a_deploy_by_curl(self):
+        """docs/HTTP.md shows it, over an empty host."""
+        self.assertIn(self.port.encode(), self.start(f"./filehost serve --listen 127.0.0.1:{PORT}").stdout.readline())
+        shown = re.findall(r"(?m)^    (curl .*)\n    (.*)$", self.by_curl)
+        self.assertEqual(len(shown), 3)
+        for command, answer in shown:
+            self.assertEqual(self.run_to_its_end(command).decode(), answer)
+
     def lines_below(self, command):
         """The lines that a page shows below each showing of a command, up to an empty one or another command."""
         for found in re.finditer(rf"(?m)^    {re.escape(command)}\n((?:    .*\n)*)", self.text):
@@ -160,9 +186,6 @@ class Readme(Program):
         below = {command: self.lines_below(command) for command in shown}
         for command in shown:
             with self.subTest(command):
-                if f"--port {PORT}" in command:
-                    self.assertEqual(self.listen(command), self.run_to_its_end("printf 'GET /s/one/ HTTP/1.1\\n\\n' | ./filehost solo --store DIR"))
-                    continue
                 if "filehost serve --listen" in command:
                     self.assertIn(self.port.encode(), self.start(command).stdout.readline())
                     continue
@@ -187,7 +210,7 @@ class Readme(Program):
         told = messages(self.run_to_its_end("./filehost solo < examples/first-run.http"))
         shown = "\n\n".join(message.rstrip("\n") for message in told)
         self.assertIn(re.sub(r"(?m)^(?=.)", "    ", shown) + "\n", self.text)
-        self.assertEqual(len(re.findall(r"(?m)^ +HTTP/1\.1 \d{3} ", self.text)), len(told))
+        self.assertEqual(len(re.findall(r"(?m)^ +HTTP/1\.1 \d{3} ", self.first_run)), len(told))
 
     def test_shows_an_undo_as_the_program_answers_it(self):
         asked = messages((TOP / "examples/take-back.http").read_bytes())
