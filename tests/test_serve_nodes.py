@@ -4,7 +4,6 @@ What is expected follows from docs/ARCHITECTURE.md, "How `serve` is built", and 
 the ring.
 """
 
-import concurrent.futures
 import itertools
 import os
 import random
@@ -97,15 +96,13 @@ class Nodes(Crowds):
         self.assert_in_time(lambda: self.told() == [(f"127.0.0.1:{self.port + PEERS + 1}", "is passed over for 5 seconds")], 2)
         self.held.open()
 
-    def test_answers_all_that_ask_it_at_once_however_many_workers_there_are(self):
-        """The others ask over more connections than it has threads for them, and fewer than it has workers."""
+    def test_answers_all_connections_of_other_nodes_however_many_workers_there_are(self):
+        """There are more of them than the node has threads for them, and than it has workers."""
         self.begin_cold(workers=4)
-        self.lines = ""
-        asked = [(node, *self.owned[1].pop()) for _ in range(8) for node in (0, 2)]
-        with concurrent.futures.ThreadPoolExecutor(8) as threads:
-            for done in [threads.submit(self.assert_reads, *one) for one in asked]:
-                done.result()
-        self.assertEqual(self.told(), [])
+        _, content = self.owned[1].pop()
+        plugs = [self.plug(asking_for(content), PEERS + 1) for _ in range(8)]
+        for plug in plugs:
+            self.assert_receives(plug, answer_with(content))
 
     def told(self):
         """What the operator was told of other nodes."""
