@@ -20,7 +20,7 @@ import unittest
 from lib.client import LARGEST_FILE, PATIENCE, closing, digest_of, opening, request, sent
 from lib.crowds import SECOND, SHORT, WHOLE, Crowds, Plug, for_seconds, reset
 from lib.rows import OTHER
-from lib.served import HOST, ask, publish
+from lib.served import FILE, HOST, ask, publish
 from lib.stores import opening_of, write_store
 
 # The port for other nodes of the first node; that of the second is the next one.
@@ -168,16 +168,32 @@ class Bodies(Waiting):
         values = dict(line.split(":", 1) for line in lines)
         return tuple(int(values[name].split()[0]) / 1_024 for name in ("VmRSS", "VmHWM"))
 
-    def post(self, body):
+    def ask_once(self, *request):
         client = self.client()
-        reply = ask(client, "POST", "/api/v1/sites/two/deploys", body)
+        reply = ask(client, *request)
         client.close()
         return reply
 
-    def test_long_ones_are_parsed_one_at_a_time_and_give_their_memory_back(self):
+    def post(self, body):
+        return self.ask_once("POST", "/api/v1/sites/two/deploys", body)
+
+    def long_body(self):
+        """One that takes as long to parse as any."""
         start, each, end = b'{"files":{},"x":[', b'{"":0},', b'{"":0}]}'
-        count = (LONGEST_BODY - len(start) - len(end)) // len(each)
-        body = start + each * count + end
+        return start + each * ((LONGEST_BODY - len(start) - len(end)) // len(each)) + end
+
+    def test_a_read_with_a_long_one_keeps_its_worker_from_nobody(self):
+        """Others are parsed meanwhile, one at a time."""
+        body = self.long_body()
+        self.begin("--workers", "1", second=WHOLE)
+        self.warm(0)
+        with self.beside_honest():
+            replies = self.at_once_each([lambda: self.post(body)] * 3 + [lambda: self.ask_once("GET", FILE, body)] * 3)
+        self.assertEqual([status for status, _ in replies[:3]], [200] * 3, replies[:3])
+        self.assert_alone()
+
+    def test_long_ones_are_parsed_one_at_a_time_and_give_their_memory_back(self):
+        body = self.long_body()
         self.begin("--store", str(self.folder()), "--workers", "8", second=WHOLE)
         self.warm(0)
         before = self.memory()[0]

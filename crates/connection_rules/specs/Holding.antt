@@ -1,8 +1,13 @@
 -- How many bytes the bodies and the replies of a node hold.
-use Rattle.std.specs.Prelude.{◌+◌, ◌-◌, ◌==◌, ℕ, Bool, true, false, Option, None, Some, if◌then◌else◌, min, nat_le}
+use Rattle.std.specs.Prelude.{◌≡◌, ◌+◌, ◌-◌, ◌^◌, ◌==◌, ℕ, Bool, true, false, List, Option, None, Some, MatchOption, if◌then◌else◌, min, nat_le, unwrap_or}
+use Rattle.std.specs.BTreeMap.{Updates, get}
+use Rattle.std.specs.Cmp.Lexicographic.{slice_cmp}
+use Rattle.std.specs.Ordering.{nat_cmp}
+use Rattle.std.specs.declared.cmp.Ordering.{Ordering}
 use Rattle.connection_rules.specs.Paces.{up_to_most}
 use Rattle.connection_rules.specs.declared.replies.HeldFile.{HeldFile}
 use Rattle.connection_rules.specs.declared.replies.HeldReply.{HeldReply}
+use Rattle.connection_rules.specs.declared.replies.Replies.{Replies}
 
 -- what all bodies but the first hold, with what is kept for their steps, and the number of the first one's connection
 pub record HeldBodies : Type 0 where
@@ -69,3 +74,34 @@ with_reply reply file = record { sent = up_to_most (file.sent + reply.length); s
 -- one reply less
 abbrev pub without_reply : HeldReply → HeldFile → HeldFile
 without_reply reply file = record { sent = file.sent - reply.length; size = file.size }
+
+-- ---- the replies of a node, by their files
+
+-- a file of which nothing is sent, and whose size isn't known
+abbrev pub no_file : HeldFile
+no_file = record { sent = 0; size = 2 ^ 64 - 1 }
+
+-- what all hold, where so much of a file was held and so much is held now
+abbrev pub recounted : (before after : ℕ) → ℕ → ℕ
+recounted before after held = up_to_most ((held - before) + after)
+
+-- a file of which nothing is sent any more is forgotten
+abbrev pub unless_unsent : HeldFile → Option HeldFile
+unless_unsent file = if file.sent == 0 then None else Some file
+
+-- the files are ordered by their digests
+abbrev pub file_cmp : List ℕ → List ℕ → Ordering
+file_cmp = slice_cmp nat_cmp
+
+-- one more reply is on its way
+abbrev pub IsAdded : HeldReply → Replies → Replies → Type 0
+IsAdded reply old new =
+    let before = unwrap_or (get file_cmp old.files reply.file) no_file in
+    let after = with_reply reply before in
+    Updates file_cmp old.files new.files reply.file (Some after) × (new.held ≡ recounted (held_of before) (held_of after) old.held)
+
+-- one less is; nothing changes where none of its file is
+abbrev pub IsRemoved : HeldReply → Replies → Replies → Type 0
+IsRemoved reply old new = MatchOption (get file_cmp old.files reply.file) (new ≡ old) (λ before.
+    let after = without_reply reply before in
+    Updates file_cmp old.files new.files reply.file (unless_unsent after) × (new.held ≡ recounted (held_of before) (held_of after) old.held))

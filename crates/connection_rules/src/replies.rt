@@ -1,5 +1,5 @@
 //! How many bytes of files the replies of a node hold.
-ghost use Rattle.std.specs.Prelude.{◌≡◌};
+ghost use Rattle.std.specs.Prelude.{◌≡◌, OnOk, nat_lt};
 ghost use Rattle.connection_rules.specs.Holding as spec;
 
 use std::alloc::{AllocError, Global};
@@ -66,7 +66,9 @@ pub struct Replies {
 
 impl Replies {
     /// There are none.
-    pub fn new(alloc: Global) -> Replies {
+    pub fn new(alloc: Global) -> Replies
+        ensures { result.held ≡ 0 }
+    {
         Replies {
             files: BTreeMap::new(alloc),
             held: 0,
@@ -74,12 +76,16 @@ impl Replies {
     }
 
     // A file of which so much was held is held so much of now.
-    fn recount(&mut self, before: u64, after: u64) {
+    fn recount(&mut self, before: u64, after: u64)
+        ensures { self.new ≡ record self.old { held = spec.recounted before after self.old.held } }
+    {
         self.held = self.held.saturating_sub(before).saturating_add(after);
     }
 
     /// One more is on its way.
-    pub fn add(&mut self, reply: &HeldReply) -> Result<(), AllocError> {
+    pub fn add(&mut self, reply: &HeldReply) -> Result<(), AllocError>
+        ensures { OnOk result (spec.IsAdded reply.now self.old self.new) }
+    {
         let none = HeldFile {
             sent: 0,
             size: u64::MAX,
@@ -92,7 +98,9 @@ impl Replies {
     }
 
     /// One less is.
-    pub fn remove(&mut self, reply: &HeldReply) {
+    pub fn remove(&mut self, reply: &HeldReply)
+        ensures { spec.IsRemoved reply.now self.old self.new }
+    {
         let Some(file) = self.files.get_mut(&reply.file) else {
             return;
         };
@@ -105,7 +113,9 @@ impl Replies {
     }
 
     /// Whether they hold more than they may.
-    pub fn are_too_many(&self) -> bool {
+    pub fn are_too_many(&self) -> bool
+        ensures { result ≡ nat_lt 268435456 self.now.held }
+    {
         self.held > ROOM
     }
 }

@@ -76,10 +76,10 @@ impl<
     pub(crate) fn answer_ask(&mut self, ask: &Ask)
         ensures { self.new.done ≡ self.old.done }
     {
+        let now = milliseconds(self.rt);
         if !self.is_needed(ask.want) {
             return;
         }
-        let now = milliseconds(self.rt);
         let name = match self.first_for(ask.want, now) {
             Some((at, number)) if number <= ask.most => self.connections.places().name_at(at),
             _ => None,

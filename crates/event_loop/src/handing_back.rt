@@ -106,6 +106,13 @@ impl<'a, R: Wait + Clock, S: SlowSteps + Drop, K: Drop, L: Drop, P: Waits + Drop
         }
     }
 
+    /// How many errands it did.
+    pub fn done(&self) -> u64
+        ensures { result ≡ self.now.done }
+    {
+        self.done
+    }
+
     /// Gives a connection back to its worker, with what its step came to. As long as there is no memory for that, it is tried again.
     fn hand_back(&self, errand: Errand<S::Connection>, step: Step) {
         let Some(line) = self.node.lines.get(errand.line) else {

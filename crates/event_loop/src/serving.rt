@@ -102,6 +102,13 @@ impl<
         }
     }
 
+    /// How many turns it did.
+    pub fn done(&self) -> u64
+        ensures { result ≡ self.now.done }
+    {
+        self.done
+    }
+
     /// The names of the connections that are ready, before any of them changes: what is told of one is for no other that has its place later in the turn.
     fn names(&self, ready: &Ready) -> [Option<Name>; 64] {
         let mut names = [None; 64];

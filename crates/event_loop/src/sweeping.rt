@@ -57,24 +57,25 @@ impl<
         }
     }
 
-    /// Lets bodies that wait for room try again, each time others first. If some still wait for whom there is room, they try again in a later turn.
+    /// Lets bodies that wait for room try again, each time others first, until one finds none. If some still wait for whom there may be room, they try again in a
+    /// later turn.
     pub(crate) fn wake(&mut self)
         ensures { self.new.done ≡ self.old.done }
     {
         if self.connections.places().first_waiting(0).is_none() {
             return;
         }
-        let steps = self.node.shares.lock(self.rt).steps();
-        for _ in 0..steps.min(MOST_WOKEN) {
-            if !self.wake_next() {
-                break;
+        // How many may go on can't be told before: one that goes on may end, or be the first from then on, and what it holds is room for others.
+        let mut has_room = true;
+        for _ in 0..MOST_WOKEN {
+            if has_room {
+                has_room = self.wake_next();
             }
         }
-        // A body that has gone just now made room that `steps` doesn't know.
-        self.note_waiting(steps > MOST_WOKEN || self.gave_room);
+        self.note_waiting(has_room);
     }
 
-    /// Lets the next body that waits for room try again. Answers whether one waits.
+    /// Lets the next body that waits for room try again. Answers whether one waited and went on.
     fn wake_next(&mut self) -> bool
         ensures { self.new.done ≡ self.old.done }
     {
@@ -90,7 +91,7 @@ impl<
         if let Some(name) = self.connections.places().name_at(at) {
             self.go_on(name);
         }
-        true
+        self.connections.places().first_waiting(at) != Some(at)
     }
 
     /// Notes whether bodies still wait. If there is room for one of them, they try again in a later turn.
