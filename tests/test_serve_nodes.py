@@ -16,8 +16,8 @@ from lib.client import REQUESTS, digest_of, request, sent
 from lib.crowds import LONGEST, WHOLE, Crowds
 from lib.held_file import HeldFile
 from lib.ring import NO_CHUNK, PEERS, answer_with, asking_for, owner
-from lib.served import FILE, free_ports, publish
-from lib.stores import opening_of, write_store
+from lib.served import FILE, ask, free_ports, publish
+from lib.stores import PIECE, opening_of, pieces_of, write_store
 
 NODES = 3
 # How many times each of two workers of a node is asked while nothing changes, about, how many connections to a node see what comes then, and how often.
@@ -34,17 +34,24 @@ class Nodes(Crowds):
         contents = {f"/{number}": drawn.randbytes(60_000) for number in range(60)}
         large = drawn.randbytes(3_000_000)
         write_store(self.store, [opening_of({**contents, "/large": large}, "two"), ("publish", "two", 1)], *contents.values(), large)
-        self.large, self.owned, port = large, {node: [] for node in range(NODES)}, free_ports()
+        self.large, self.owned, self.port = large, {node: [] for node in range(NODES)}, free_ports()
         for path, content in contents.items():
-            self.owned[owner(port, digest_of(content), NODES)].append((path, content))
+            self.owned[owner(self.port, digest_of(content), NODES)].append((path, content))
         how = self.held_in(**how)
-        self.begin("--store", str(self.store), "--workers", str(workers), nodes=NODES, port=port, second=WHOLE, **how)
+        self.begin("--store", str(self.store), "--workers", str(workers), nodes=NODES, port=self.port, second=WHOLE, **how)
 
-    def held_in(self, most=None):
-        """What the program is started with: so many reads are to be held of the next file that the second node owns, if a number is said."""
+    def pieces_owned(self, its_owner):
+        """The pieces of the large file that a node owns, each with the place of its first byte."""
+        pieces = enumerate(pieces_of(self.large))
+        return [(number * PIECE, piece) for number, piece in pieces if owner(self.port, digest_of(piece), NODES) == its_owner]
+
+    def held_in(self, most=None, is_large=False):
+        """What the program is started with: so many reads are to be held of the next file that the second node owns, or of its first piece of the large one, if
+        a number is said."""
         if most is None:
             return {}
-        self.held = HeldFile(self.folder(), self.store / f"c-{digest_of(self.owned[1][-1][1])}", most)
+        content = self.pieces_owned(1)[0][1] if is_large else self.owned[1][-1][1]
+        self.held = HeldFile(self.folder(), self.store / f"c-{digest_of(content)}", most)
         # The program reads each piece once as it opens the store.
         self.held.open()
         return {"environment": self.held.environment}
@@ -94,6 +101,20 @@ class Nodes(Crowds):
         self.assertLess(took, FETCH + LONGEST + self.stalls.since(mark))
         self.assertEqual(self.held.told(), ["opened", "held", "opened"])
         self.assert_in_time(lambda: self.told() == [(f"127.0.0.1:{self.port + PEERS + 1}", "is passed over for 5 seconds")], 2)
+        self.held.open()
+
+    def test_all_stretches_of_a_request_share_the_time_for_other_nodes(self):
+        """The owner of the first one gives nothing until that is over. So the owner of the second one isn't asked any more."""
+        self.begin_cold(most=1, is_large=True)
+        self.held.close()
+        (first, _), (second, other) = self.pieces_owned(1)[0], self.pieces_owned(2)[-1]
+        stretches = [(first, first + 9), (second, second + 9)]
+        status, body = ask(self.client(), "GET", "/s/two/large", Range="bytes=" + ",".join(f"{start}-{end}" for start, end in stretches))
+        self.assertEqual(status, 206)
+        for start, end in stretches:
+            self.assertIn(self.large[start:end + 1], body)
+        self.assertEqual(self.held.told(), ["opened", "held", "opened"])
+        self.assertFalse(self.has_kept(2, other))
         self.held.open()
 
     def test_answers_all_connections_of_other_nodes_however_many_workers_there_are(self):

@@ -251,6 +251,24 @@ class First(Ways):
             plug.sendall(GET)
             self.assert_receives(plug, HELLO)
 
+    def test_a_silent_connection_of_another_node_goes_for_a_file_before_clients_that_were_answered(self):
+        """A cold file finds no descriptor."""
+        content, folder = b"cold" * 1_000, self.folder() / "store"
+        write_store(folder, [opening_of({"/cold": content}, "two"), ("publish", "two", 1)], content)
+        self.begin("--store", str(folder), second=WHOLE)
+        kept = self.crowd(5, GET)
+        for plug in kept:
+            self.assert_receives(plug, HELLO)
+        silent = self.crowd_later(1, node=PEERS)[0]
+        self.assert_in_time(lambda: self.sockets() == len(kept) + 1, GRACE)
+        self.let_have(0)
+        kept[0].sendall(request("GET", "/s/two/cold"))
+        self.assert_receives(kept[0], sent(content, kind=OTHER))
+        self.assertLess(seconds_until_closed(silent, SOON), SOON)
+        for plug in kept:
+            plug.sendall(GET)
+            self.assert_receives(plug, HELLO)
+
 
 if __name__ == "__main__":
     unittest.main()

@@ -11,13 +11,13 @@ import subprocess
 import time
 import unittest
 
-from lib.client import HERE, LARGEST_FILE, PATIENCE, REQUESTS, SECONDS, digest_of, request
+from lib.client import HERE, LARGEST_FILE, PATIENCE, PUBLISHED, REQUESTS, SECONDS, digest_of, refused, request
 from lib.crowds import FILES, WHOLE, reset
 from lib.held_file import HeldFile
 from lib.launched import Launched
 from lib.ring import PEERS, asking_for
 from lib.rooms import Room
-from lib.served import FILE, HOST, Served, ask, ports_of_several
+from lib.served import FILE, HOST, Served, ask, ports_of_several, sockets_of
 from lib.stores import PIECE, opening_of, write_store
 
 SOURCE = HERE / "refuse_thread.c"
@@ -30,6 +30,8 @@ TOO_LARGE, UPLOAD = (
     f"PUT /api/v1/deploys/1/files/a HTTP/1.1\r\nContent-Length: {length}\r\n\r\n".encode() + bytes(rest)
     for length, rest in ((LARGEST_FILE + 1, 0), (LARGEST_FILE, 1_000))
 )
+# What the system calls the counter by which the wait of a worker is ended.
+WAKER = "anon_inode:[eventfd]"
 # A start that waits for a thread ends after so many seconds, and a stop takes no longer.
 LONGEST = 10
 
@@ -162,6 +164,28 @@ class Woken(Launched):
             self.assertEqual(kept[-1].recv(1), b"H")
             took.append(time.monotonic() - began)
         self.assertLess(sorted(took)[len(took) * 9 // 10], 0.1)
+
+    def test_what_a_worker_is_told_while_it_takes_note_that_it_was_woken_is_heard(self):
+        """It is held there, and the other worker gives it clients meanwhile."""
+        held = HeldFile(self.folder(), WAKER, most=1)
+        held.open()
+        started = self.serve("--workers", "2", second=WHOLE, environment=held.environment)
+        alone = sockets_of(started)
+        held.close()
+        # A thread that may wait carries out the first request, and its worker is told then.
+        asked, wanted = PUBLISHED[0]
+        plugs = [(self.plug(asked), wanted)]
+        held.wait("held")
+        # The other worker takes them all, and each worker has at least one of them.
+        plugs += [(self.plug(request("GET", FILE)), refused("NoSuchFile")) for _ in range(4)]
+        until = time.monotonic() + PATIENCE
+        while sockets_of(started) < alone + len(plugs):
+            self.assertLess(time.monotonic(), until)
+            time.sleep(0.01)
+        time.sleep(0.1)
+        held.open()
+        for plug, wanted in plugs:
+            self.assert_receives(plug, wanted)
 
 
 if __name__ == "__main__":

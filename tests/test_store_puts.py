@@ -164,6 +164,14 @@ class Failed(Puts):
                     self.assert_stored(CONTENT)
                     self.converse(command, read)
 
+    def test_of_other_bytes_than_are_listed_is_nothing(self):
+        """Nothing of them is put before they are refused."""
+        for command in TEMPORARIES:
+            with self.subTest(command):
+                self.begin(command)
+                self.converse(command, opens(1, CONTENT), (upload(1, "a", CONTENT[:-1]), refused("WrongDigest")))
+                self.assertEqual(self.shelf(), [])
+
     def test_at_a_limit_of_file_sizes_is_nothing(self):
         for command in TEMPORARIES:
             with self.subTest(command):
