@@ -1,4 +1,4 @@
-"""What a reader of a contract has to read (scripts/chain): as much as scripts/chains.txt says, and what is defined there."""
+"""What a reader of a contract has to read (scripts/chain): as much as scripts/chains.txt says, and what is defined there, by subject too."""
 
 import pathlib
 import re
@@ -129,19 +129,15 @@ class OfThisRepository(unittest.TestCase):
                 self.assertEqual(total, f"{counts[0]} definitions, {counts[1]} lines")
                 self.assertEqual(len(chain), int(counts[0]))
 
-    def test_is_told_by_subject(self):
-        rows = re.findall(r"^\| [^|]+ \| (\d+) \| (\d+) \| [^|]+ \| ([^|]+) \|$", (TOP / "docs/TRUST.md").read_text(), re.MULTILINE)
-        owners = {file: number for number, (*_, files) in enumerate(rows) for file in re.findall(r"`([\w/]+)`", files)}
-        printed = subprocess.run([TOP / "scripts/chain", "host_server", "run_solo"], capture_output=True, text=True, timeout=60, check=True)
-        counted = [[0, 0] for _ in rows]
-        for line in printed.stdout.splitlines()[:-1]:
-            file, _, lines = line.split()
-            named = [owner for owner in owners if f"{file.removesuffix('.antt')}/".startswith(f"{owner}/")]
-            self.assertTrue(named, f"docs/TRUST.md names no subject of {file}")
-            counts = counted[owners[max(named, key=len)]]
-            counts[0] += 1
-            counts[1] += int(lines)
-        self.assertEqual([[int(definitions), int(lines)] for definitions, lines, _ in rows], counted)
+    def test_is_counted_by_subject(self):
+        """Each definition is about one of the subjects, and these have all definitions and all lines."""
+        printed = subprocess.run([TOP / "scripts/chain", "host_server", "run_solo", "--subjects"], capture_output=True, text=True, timeout=60, check=True)
+        *rows, total = printed.stdout.splitlines()
+        counts = [re.fullmatch(r"\| ([^|]+) \| (\d+) \| (\d+) \| [^|]+ \|", row).groups() for row in rows[2:]]
+        subjects = re.findall(r"(?m)^(?!#)(.*?) \| ", (TOP / "scripts" / "chain-subjects.txt").read_text())
+        self.assertEqual([subject for subject, *_ in counts], subjects)
+        sums = [sum(int(row[column]) for row in counts) for column in (1, 2)]
+        self.assertEqual(total, f"{sums[0]} definitions, {sums[1]} lines")
 
     def test_leads_the_program_down_to_what_each_command_means(self):
         printed = subprocess.run([TOP / "scripts/chain", "host_server", "run_solo"], capture_output=True, text=True, timeout=60, check=True)

@@ -119,7 +119,7 @@ class Map(unittest.TestCase):
         "accept", "adding a command", "body limit", "cache eviction", "clash", "content hash", "dedupe", "deploy JSON", "ETag", "exit status",
         "Expect", "fsync", "head parsed", "If-None-Match", "If-Range", "index.html", "journal entry bytes", "MIME", "multipart", "order of syncs",
         "404 and refusal names", "owner of a key", "path decoding", "publishes itself", "Range", "store lock", "timeouts", "torn tail", "undo",
-        "who may deploy",
+        "who may deploy", "idle", "EMFILE", "disk full", "signal", "SIGTERM", "epoll", "environment", "version",
     )
 
     def test_has_eight_groups(self):
@@ -148,17 +148,22 @@ class Map(unittest.TestCase):
         assert_files_are_there(self, self.text, 200)
 
     def test_says_where_each_definition_is(self):
-        rows = re.findall(r"(?m)^\| [^|]* \| ([^|]*\.antt\)[^|]*) \| ([^|]*) \| ([^|]*) \|$", self.text)
+        """Names before a file of definitions, of the row's first crate unless it names another, are in it. Others are in the code of the row's crates."""
+        rows = re.findall(r"(?m)^\| \*\*[^|]* \| ([^|]*`[^|]*) \| ([^|]*) \|$", self.text.partition("\n## Not in the program")[0])
         self.assertGreater(len(rows), 80)
-        for definitions, functions, files in rows:
-            specs = [read("crates", crate, "specs", file) for crate, file in re.findall(r"(\w+)/((?:\w+/)*\w+\.antt)", definitions)]
-            code = "\n".join(map(code_of, {file.partition("/")[0] for file in files.split(", ")} | {"host_server"}))
-            for name in re.findall(r"`(\w+)`", definitions):
-                with self.subTest(definition=name):
-                    self.assertTrue(re.search(rf"(?m)^(?:\w+ )*{name}\b[^=\n]*:", "\n".join(specs)))
-            for name in re.findall(r"`(?:\w+::)?(\w+)`", functions):
+        count = 0
+        for named, files in rows:
+            of_row = re.findall(r"(?<![\w/])(\w+)/(?:\w+/)*\w+\.rt", files)
+            code = "\n".join(map(code_of, {*of_row, "host_server"}))
+            for names, crate, file in re.findall(r"((?:`\w+`(?:, )?)+) \((?:(\w+)/)?([A-Z]\w+)\)", named):
+                for name in re.findall(r"`(\w+)`", names):
+                    count += 1
+                    with self.subTest(definition=name):
+                        self.assertTrue(re.search(rf"(?m)^(?:\w+ )*{name}\b[^=\n]*:", read("crates", crate or of_row[0], "specs", f"{file}.antt")))
+            for name in re.findall(r"`(?:\w+::)?(\w+)`", re.sub(r"(?:`\w+`(?:, )?)+ \([\w/]+\)", "", named)):
                 with self.subTest(function=name):
-                    self.assertTrue(re.search(rf"\b(fn|ensures|ghost|for|impl|trait) {name}\b", code))
+                    self.assertTrue(re.search(rf"\b(fn|ensures|ghost|for|impl|trait|struct) {name}\b", code))
+        self.assertGreater(count, 150)
 
     def test_names_definitions_and_calls_of_each_section_of_the_interface_and_the_wire(self):
         wire = ("http_wire", "host_api", "host_replies", "host_answers", "host_connection", "host_server", "range_spec", "range_reply")
@@ -188,9 +193,9 @@ class Pages(unittest.TestCase):
                 self.assertEqual([line for line in lines if len(line) > 160 and not line.startswith("|")], [])
 
     def test_stay_within_their_sizes(self):
-        """README.md has at most 120 lines, and the folder docs at most 295 KB."""
+        """README.md has at most 120 lines, and the folder docs at most 195 KB."""
         self.assertLessEqual(len(read("README.md").splitlines()), 120)
-        self.assertLessEqual(sum(file.stat().st_size for file in (TOP / "docs").rglob("*") if file.is_file()), 295_000)
+        self.assertLessEqual(sum(file.stat().st_size for file in (TOP / "docs").rglob("*") if file.is_file()), 195_000)
 
     def test_name_files_of_the_repository_that_are_there(self):
         for page in PAGES:

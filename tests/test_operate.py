@@ -111,7 +111,7 @@ class Units(unittest.TestCase):
     def test_start_the_launcher_and_leave_it_time_and_room(self):
         told = settings(UNIT)
         self.assertEqual((told["Type"], told["ExecStart"].split()[0]), ("exec", "/opt/filehost/filehost"))
-        drain = documented("WIRE.md", r"as does its reply,\s+for (\d+) seconds at most")
+        drain = documented("WIRE.md", r"as does its\s+reply,\s+for (\d+) seconds at most")
         self.assertGreaterEqual(int(told["TimeoutStopSec"]), 2 * drain)
         self.assertGreaterEqual(int(told["MemoryMax"][:-1]) * SIZES[told["MemoryMax"][-1]], SIZES["G"])
         places = documented("WIRE.md", r"It has ([\d,]+) connections, or fewer")

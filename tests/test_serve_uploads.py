@@ -1,6 +1,6 @@
 """`filehost serve` while the sync of an upload's piece is held: whom that holds, and what two uploads of one file leave.
 
-What is expected follows from docs/DECISIONS.md, "Between crates": an upload takes its locks in steps, and none while its bytes are written and synced.
+What is expected follows from docs/ARCHITECTURE.md, "Between crates": an upload takes its locks in steps, and none while its bytes are written and synced.
 """
 
 import random

@@ -279,6 +279,7 @@ class Outside(unittest.TestCase):
     def test_are_counted_and_listed(self):
         self.assertEqual(self.call("scripts/wrong-bodies", "--counts")[1][2:], ["| few | 0 | 1 |", "| all | 0 | 1 |"])
         self.assertEqual(self.call("scripts/wrong-bodies", "few")[1][2:], ["| few |  | wrong | src/lib.rt | try-wrong-bodies |"])
+        self.assertEqual(self.call("scripts/wrong-bodies", "--tried")[1][2:], ["| few | 1 | never |"])
 
 
 if __name__ == "__main__":

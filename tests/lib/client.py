@@ -59,7 +59,8 @@ def documented_reasons():
 
 def documented_statuses():
     """The status line's code and phrase for each name of a refusal, by the tables in docs/HTTP.md."""
-    code_of = dict(re.findall(r"(?m)^\| ([\w` ]+) \| (\d+) \|", section("HTTP.md", "Refusals")))
+    rows = re.findall(r"(?m)^\| ([\w`, ]+) \| (\d+) \|", section("HTTP.md", "Refusals"))
+    code_of = {name: code for names, code in rows for name in names.split(", ")}
     not_there, other = code_of.pop("begins with `NoSuch`"), code_of.pop("any other")
     for name in documented_reasons() - code_of.keys():
         code_of[name] = not_there if name.startswith("NoSuch") else other
