@@ -50,11 +50,14 @@ impl World {
         self.seen.given_up = self.seen.given_up.saturating_add(1);
     }
 
-    /// The node begins to drain. Answers until when.
-    pub fn drain(&mut self, milliseconds: u64) -> u64 {
+    /// The node begins to drain, unless it drains already: the program asks it once, and a second signal ends it. Answers until when.
+    pub fn drain(&mut self, milliseconds: u64) -> Option<u64> {
+        if self.drained_by.is_some() {
+            return None;
+        }
         let by = self.now.saturating_add(milliseconds);
         self.seen.drains = self.seen.drains.saturating_add(1);
         self.drained_by = Some(by);
-        by
+        Some(by)
     }
 }

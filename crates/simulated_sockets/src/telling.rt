@@ -81,7 +81,8 @@ impl World {
             }
             None => false,
         };
-        is_awake || self.is_ready(set)
+        // Before a worker waits, it looks whether the node is over.
+        is_awake || self.is_ready(set) || self.must_be_over()
     }
 
     /// A worker takes a turn now.

@@ -100,13 +100,15 @@ impl<'v, 'a, R: Wait> Ground<'v, 'a, R> {
         }
     }
 
-    /// The node begins to drain.
+    /// The node begins to drain, unless it drains already.
     fn drain(&self, milliseconds: u64) {
         let by = match self.world.try_lock() {
             Some(mut world) => world.drain(milliseconds),
-            None => return,
+            None => None,
         };
-        self.node.drain(by);
+        if let Some(by) = by {
+            self.node.drain(by);
+        }
     }
 }
 
