@@ -81,8 +81,7 @@ impl World {
             }
             None => false,
         };
-        // Before a worker waits, it looks whether the node is over.
-        is_awake || self.is_ready(set) || self.must_be_over()
+        is_awake || self.is_ready(set)
     }
 
     /// A worker takes a turn now.
