@@ -1,6 +1,6 @@
 """What a crate's wrong bodies are judged by, its definitions and the clauses in its code, as one SHA-1.
 
-scripts/try-wrong-bodies keeps it once all wrong bodies of the crate were refused, and tests/test_wrong_bodies.py fails where it has
+scripts/try-wrong-bodies keeps it once all wrong bodies of the crate were refused, and test_wrong_bodies.py fails where it has
 changed since: a clause that says less might let one of them through. What a clause cites of the crates below is watched there.
 """
 
