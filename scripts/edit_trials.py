@@ -16,7 +16,7 @@ TOP = pathlib.Path(__file__).resolve().parent.parent
 
 
 def toolchain(script):
-    """The toolchain's command `rt` as a module, so that an edit is judged here as the gate judges it."""
+    """The toolchain's command `rt` as a module, so that an edit is judged here as ./test judges it."""
     found = shutil.which("rt") or sys.exit(f"{script}: the Rattle toolchain is missing: there is no command rt on PATH")
     loader = importlib.machinery.SourceFileLoader("rt", os.path.realpath(found))
     made = importlib.util.module_from_spec(importlib.util.spec_from_loader("rt", loader))
@@ -61,7 +61,7 @@ def is_unreadable(rt, outcome):
 
 
 def is_refusal(rt, outcome):
-    """Whether the prover refused an edit, as the gate counts it. Some versions of the toolchain also say whether the prover reached a limit."""
+    """Whether the prover refused an edit, as ./test counts it. Some versions of the toolchain also say whether the prover reached a limit."""
     return outcome is True or outcome in [getattr(rt, name) for name in ("REFUSED", "AT_LIMIT") if hasattr(rt, name)]
 
 

@@ -6,7 +6,7 @@ crate=$root/crates/filehost
 program=$crate/out/filehost
 # Is there while a build runs, and after one that failed. Its time is the build's start.
 unfinished=$crate/out/build.unfinished
-# The SHA-256 of the executable that was proved last, by a build or by the gate.
+# The SHA-256 of the executable that was proved last, by a build or by ./test.
 proved=$crate/out/proved.sha256
 # The program to run at once, its SHA-256, and the sums of the sources that it was built from: scripts/release writes them.
 released=$root/dist/filehost

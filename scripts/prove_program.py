@@ -1,7 +1,7 @@
 """Proves the crates of the program by `rt ci`, and builds it: the part of scripts/build that takes time.
 
-`rt ci` runs over a copy of those crates, without their wrong bodies. It takes from this machine what it proved there before, for the gate too, and
-the gate takes what it proves now.
+`rt ci` runs over a copy of those crates, without their wrong bodies. It takes from this machine what it proved there before, for ./test too, and
+./test takes what it proves now.
 """
 
 import hashlib
@@ -37,7 +37,7 @@ SOURCES = ("src", "specs", "proofs")
 # What `rt ci` runs a program with, and compares its answer with.
 RUNS = ("args", "stdin", "stdout", "status", "data")
 SECONDS_BETWEEN_LOOKS = 0.5
-# The SHA-256 of the program that was proved last, by a build or by the gate: scripts/release takes no other.
+# The SHA-256 of the program that was proved last, by a build or by ./test: scripts/release takes no other.
 PROVED = OUT / "proved.sha256"
 # Clears the line of a terminal on which progress is shown.
 CLEAR = "\r\x1b[K" if sys.stderr.isatty() else ""

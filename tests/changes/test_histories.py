@@ -1,6 +1,6 @@
 """Generated histories: the program answers each of their requests as the plain model does, byte for byte.
 
-FILEHOST_HISTORIES says how many of each kind there are, where the gate's count isn't enough.
+FILEHOST_HISTORIES says how many of each kind there are, if that of ./test isn't enough.
 """
 
 import collections

@@ -1,4 +1,4 @@
-"""Reads and syncs of one file of a store, each held by a library in C (hold_file.c) until a gate is opened."""
+"""Reads and syncs of one file of a store, each held by a library in C (hold_file.c) until it is let go."""
 
 import subprocess
 import time
@@ -11,13 +11,14 @@ LONGEST_HOLD = 60
 
 
 class HeldFile:
-    """The file. The library, the gate and what was told are in a folder of their own. While the gate is closed, so many calls are held at most, if that is said."""
+    """The file. The library, what lets calls go and what was told are in a folder of their own. Until calls are let go, this many are held at most, if that
+    is said."""
 
     def __init__(self, room, file, most=None):
-        self.library, self.gate, self.told_in = (room / name for name in ("hold_file.so", "gate", "told"))
+        self.library, self.release, self.told_in = (room / name for name in ("hold_file.so", "release", "told"))
         subprocess.run(["gcc", "-O1", "-shared", "-fPIC", "-o", self.library, SOURCE, "-ldl"], check=True, timeout=SECONDS)
         self.environment = {
-            "LD_PRELOAD": str(self.library), "HELD_FILE": str(file), "GATE_FILE": str(self.gate), "TOLD_FILE": str(self.told_in),
+            "LD_PRELOAD": str(self.library), "HELD_FILE": str(file), "RELEASE_FILE": str(self.release), "TOLD_FILE": str(self.told_in),
             "HELD_SECONDS": str(LONGEST_HOLD), **({} if most is None else {"HELD_MOST": str(most)}),
         }
 
@@ -33,10 +34,10 @@ class HeldFile:
             time.sleep(0.002)
 
     def open(self):
-        """Opens the gate."""
-        self.gate.touch()
+        """Lets the calls go on that are held, and those that come."""
+        self.release.touch()
 
     def close(self):
-        """Closes the gate, and forgets what was told. No call is held then."""
-        for file in (self.gate, self.told_in):
+        """Holds calls again, and forgets what was told. No call is held then."""
+        for file in (self.release, self.told_in):
             file.unlink(missing_ok=True)

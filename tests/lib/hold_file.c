@@ -1,6 +1,6 @@
-/* Is before the C library's calls on files in a program, and holds each read and each sync of the file HELD_FILE until there is a file GATE_FILE,
+/* Is before the C library's calls on files in a program, and holds each read and each sync of the file HELD_FILE until there is a file RELEASE_FILE,
  * at most for HELD_SECONDS; or only so many of them as HELD_MOST says, if that is set. It tells in lines of the file TOLD_FILE when the held file is
- * opened, when a call is held, and when that call goes on: since the gate is open, or since it gives up. */
+ * opened, when a call is held, and when that call goes on: since that file is there, or since it gives up. */
 #define _GNU_SOURCE
 #include <dlfcn.h>
 #include <fcntl.h>
@@ -35,19 +35,19 @@ static void tell(const char *line) {
 }
 
 /* Whether one more call may be held. */
-static int may_hold(const char *gate) {
+static int may_hold(const char *release) {
     static int count;
     const char *most = getenv("HELD_MOST");
-    return !most || access(gate, F_OK) == 0 || __sync_fetch_and_add(&count, 1) < atoi(most);
+    return !most || access(release, F_OK) == 0 || __sync_fetch_and_add(&count, 1) < atoi(most);
 }
 
 static void hold(void) {
     const struct timespec pause = {0, 1000000};
-    const char *gate = getenv("GATE_FILE");
-    if (!may_hold(gate)) return;
+    const char *release = getenv("RELEASE_FILE");
+    if (!may_hold(release)) return;
     time_t until = time(NULL) + atoi(getenv("HELD_SECONDS"));
     tell("held\n");
-    while (access(gate, F_OK) != 0) {
+    while (access(release, F_OK) != 0) {
         if (time(NULL) > until) {
             tell("gave up\n");
             return;

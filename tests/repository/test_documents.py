@@ -91,7 +91,7 @@ class OrderOfCrates(unittest.TestCase):
                     with self.subTest(page=str(page.relative_to(TOP)), first=names[0]):
                         self.assert_in_order(list(dict.fromkeys(names)))
         self.assertGreater(count, 3)
-        untried = read("docs", "GATE.md").partition("Still to be tried")[2].partition(".\n")[0]
+        untried = read("docs", "CHECKS.md").partition("Still to be tried")[2].partition(".\n")[0]
         self.assert_in_order(re.findall(r"`(\w+)`", untried))
         self.assert_in_order(re.findall(r"(?m)^(\w+) \d+ \d+$", read("scripts", "build-seconds.txt")))
 

@@ -265,7 +265,7 @@ class Launcher(unittest.TestCase):
 
     def test_builds_nothing_where_other_files_are_newer(self):
         self.add_built_program()
-        for path in ("README.md", "docs/GATE.md", "crates/low/PROMISES.md", "crates/low/must-fail/wrong.edit", "crates/other/src/lib.rt"):
+        for path in ("README.md", "docs/CHECKS.md", "crates/low/PROMISES.md", "crates/low/must-fail/wrong.edit", "crates/other/src/lib.rt"):
             self.sandbox.write(path)
         self.call()
         self.assertEqual(self.sandbox.calls(), [])

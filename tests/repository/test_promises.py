@@ -73,7 +73,7 @@ class Promises(unittest.TestCase):
         self.assertEqual({crate for crate in crates() if edits(crate)}, set(PAGES))
 
     def test_wrong_bodies_that_are_named_are_there(self):
-        for page in (*PAGES.values(), TOP / "docs" / "TRUST.md", TOP / "docs" / "GATE.md"):
+        for page in (*PAGES.values(), TOP / "docs" / "TRUST.md", TOP / "docs" / "CHECKS.md"):
             of = [page.parent.name] if page.parent.name in PAGES else crates()
             there = set().union(*map(edits, of))
             for name in set(EDIT.findall(page.read_text())) - {"try-wrong-bodies"}:
@@ -127,10 +127,10 @@ class WrongBodies(unittest.TestCase):
     def test_counts_them(self):
         counts = {row[0]: row[1:] for row in (line.strip("| ").split(" | ") for line in self.printed("--counts")[2:])}
         for crate in PAGES:
-            gate, outside = (len(list((TOP / "crates" / crate / folder).glob("*.edit"))) for folder in ("must-fail", "wrong-bodies"))
-            self.assertEqual(counts[crate], [str(gate), str(outside)])
+            tried, outside = (len(list((TOP / "crates" / crate / folder).glob("*.edit"))) for folder in ("must-fail", "wrong-bodies"))
+            self.assertEqual(counts[crate], [str(tried), str(outside)])
         self.assertEqual(sum(map(int, counts["all"])), sum(len(edits(crate)) for crate in crates()))
 
     def test_tells_which_are_to_be_tried_again(self):
-        told = read("docs", "GATE.md").partition("Still to be tried over the contracts as they are: ")[2].partition(".")[0]
+        told = read("docs", "CHECKS.md").partition("Still to be tried over the contracts as they are: ")[2].partition(".")[0]
         self.assertEqual(set(self.printed("--untried")), set(re.findall(r"`(\w+)`", told)))

@@ -90,7 +90,7 @@ class Readme(Program):
         shutil.copytree(TOP, self.top, ignore=left_out, symlinks=True)
         (self.top / "crates/filehost/out").mkdir()
         shutil.copy(PROGRAM, self.top / "crates/filehost/out/filehost")
-        # So what ./test runs after the gate takes no time, and doesn't run this test again.
+        # So what ./test runs after `rt ci` takes no time, and doesn't run this test again.
         (self.top / "tests/run").write_text(TESTS)
         (self.top / "DIR").mkdir()
         (self.room / "toolchain").mkdir()

@@ -166,7 +166,7 @@ class Release(Served, Program):
     def test_ignores_what_the_program_is_not_made_of(self):
         self.put_release()
         self.sandbox.write("crates.txt", CRATES.replace("other: low", "other: low sha1").replace("# the program", "# another remark"))
-        for path in ("crates/other/src/lib.rt", "crates/low/must-fail/wrong.edit", "docs/GATE.md"):
+        for path in ("crates/other/src/lib.rt", "crates/low/must-fail/wrong.edit", "docs/CHECKS.md"):
             self.sandbox.write(path, "other")
         self.assert_runs_at_once()
 

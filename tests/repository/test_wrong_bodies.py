@@ -1,4 +1,4 @@
-"""The wrong bodies of the crates, most of which the gate doesn't try: each still fits the code, and no contract has changed since
+"""The wrong bodies of the crates, most of which ./test doesn't try: each still fits the code, and no contract has changed since
 they were tried."""
 
 import pathlib
@@ -46,21 +46,21 @@ class Edits(unittest.TestCase):
 
     def test_were_refused_by_the_contracts_that_are_there(self):
         # Those of a crate whose contracts have changed since are tried by scripts/try-wrong-bodies; until then the document names it.
-        text = (TOP / "docs" / "GATE.md").read_text()
+        text = (TOP / "docs" / "CHECKS.md").read_text()
         named = set(re.findall(r"`(\w+)`", text.partition("Still to be tried over the contracts as they are: ")[2].partition(".")[0]))
         tried = [crate for crate in CRATES if any((crate / "wrong-bodies").glob("*.edit"))]
         changed = {crate.name for crate in tried if contracts.kept(crate) != contracts.digest_of(crate)}
-        self.assertEqual(changed, named, "run scripts/try-wrong-bodies, or name the crates in docs/GATE.md")
+        self.assertEqual(changed, named, "run scripts/try-wrong-bodies, or name the crates in docs/CHECKS.md")
 
 
     def test_are_in_the_gate_only_if_the_document_says_why(self):
-        # The first edit of a crate in the gate costs everyone one more proof of that crate.
-        told = (TOP / "docs" / "GATE.md").read_text().partition("\n| Crate | In the gate | Why |\n")[2].partition("\n\n")[0]
+        # The first edit of a crate that ./test tries costs everyone one more proof of that crate.
+        told = (TOP / "docs" / "CHECKS.md").read_text().partition("\n| Crate | In `./test` | Why |\n")[2].partition("\n\n")[0]
         rows = re.findall(r"(?m)^\| `(\w+)` \| (\d+) \| \w.* \|$", told)
         counts = {crate.name: len(list((crate / "must-fail").glob("*.edit"))) for crate in CRATES}
         wanted = {name: int(count) for name, count in rows}
         self.assertGreater(len(wanted), 1)
-        self.assertEqual({name: count for name, count in counts.items() if count}, wanted, "put the edit into wrong-bodies, or say why not in docs/GATE.md")
+        self.assertEqual({name: count for name, count in counts.items() if count}, wanted, "put the edit into wrong-bodies, or say why not in docs/CHECKS.md")
 
 
 class Contracts(unittest.TestCase):
@@ -243,7 +243,7 @@ def must_fail(crate, edit, _flags, _kept=None):
 
 
 class Outside(unittest.TestCase):
-    """The scripts over a crate of which the gate tries no wrong body, and which was never tried."""
+    """The scripts over a crate of which ./test tries no wrong body, and which was never tried."""
 
     def setUp(self):
         modules = (f"scripts/{name}.py" for name in ("arguments", "contracts", "edit_trials", "source_words"))

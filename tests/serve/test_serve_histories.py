@@ -2,7 +2,7 @@
 
 So whichever worker or node answers a request, its reply is over all that was changed before. Generated histories are compared with the plain model, and
 worked runs with `solo` too, as those of test_changes.py, test_undos.py and test_versions.py are. FILEHOST_HISTORIES says how many generated ones there are,
-where the gate's count isn't enough.
+if that of ./test isn't enough.
 """
 
 import collections

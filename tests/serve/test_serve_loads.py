@@ -29,7 +29,7 @@ def reply_with(path):
 
 
 class Held(Served):
-    """The load of /x.txt is held until the gate is opened."""
+    """The load of /x.txt is held until it is let go."""
 
     def begin(self, workers, nodes=1):
         """Serves the files. /y.txt was read at each node, and /x.txt at none."""
@@ -54,7 +54,7 @@ class Held(Served):
         self.held.wait(*LOADED)
 
     def assert_goes_on(self, *plugs):
-        """Each of these connections was sent nothing; once the gate is open, each is sent the file, which was loaded once."""
+        """Each of these connections was sent nothing; once the load is let go, each is sent the file, which was loaded once."""
         for plug in plugs:
             self.assert_silent(plug)
         self.assert_still_held()

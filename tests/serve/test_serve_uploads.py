@@ -46,7 +46,7 @@ class HeldSyncs(Served):
         return plug
 
     def assert_goes_on(self, plug, path, published):
-        """The upload was told nothing; once the gate is open, it is told that it is done."""
+        """The upload was told nothing; once the sync is let go, it is told that it is done."""
         self.assert_silent(plug)
         self.assertEqual(self.held.told(), ["opened", "held"])
         self.held.open()

@@ -7,7 +7,7 @@ import unittest
 from lib.built_crates import BuiltCrate
 
 CRATE = BuiltCrate("worker_driver")
-# Runs of 300 events, in two programs at once; their seeds begin after those of the gate.
+# Runs of 300 events, in two programs at once; their seeds begin after those of ./test.
 FIRST = 10_001
 RUNS = 3_334
 EVENTS = 300

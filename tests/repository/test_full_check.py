@@ -1,4 +1,4 @@
-"""The gate ./test and the runner tests/run: nothing that failed is counted as passed, and all is counted."""
+"""The full check ./test and the runner tests/run: nothing that failed is counted as passed, and all is counted."""
 
 import os
 import runpy
@@ -28,7 +28,7 @@ done
 """
 
 
-class Gate(unittest.TestCase):
+class FullCheck(unittest.TestCase):
     def setUp(self):
         self.sandbox = Sandbox("test", ".ci/run", *LAUNCHER)
         self.addCleanup(self.sandbox.close)
@@ -39,8 +39,8 @@ class Gate(unittest.TestCase):
         self.sandbox.run(str(self.sandbox.top / "filehost"))
         return self.sandbox.calls()
 
-    def gate(self, ci="3 passed, 0 failed", ci_status=0, run="2 passed, 0 failed", run_status=0, command="test", **how):
-        """Runs the gate over parts that say and answer this, and returns its status and its lines."""
+    def check(self, ci="3 passed, 0 failed", ci_status=0, run="2 passed, 0 failed", run_status=0, command="test", **how):
+        """Runs ./test over parts that say and answer this, and returns its status and its lines."""
         how.update(CI_SAYS=f"every proof\n{ci}\n", CI_STATUS=str(ci_status))
         how.update(RUN_SAYS=run, RUN_STATUS=str(run_status))
         status, out, _ = self.sandbox.run(str(self.sandbox.top / command), **how)
@@ -50,38 +50,38 @@ class Gate(unittest.TestCase):
         self.assertEqual((answer[0], answer[1][-1]), (status, last))
 
     def test_counts_both_parts_and_shows_what_they_print(self):
-        status, lines = self.gate()
+        status, lines = self.check()
         shown = ["every proof", "3 passed, 0 failed", "the end-to-end tests", "2 passed, 0 failed", "5 passed, 0 failed"]
         self.assertEqual((status, lines), (0, shown))
 
     def test_fails_where_a_part_counts_failures(self):
-        self.assert_ends(self.gate(ci="3 passed, 2 failed", ci_status=1), 1, "5 passed, 2 failed")
-        self.assert_ends(self.gate(run="1 passed, 1 failed", run_status=1), 1, "4 passed, 1 failed")
-        self.assert_ends(self.gate(ci="3 passed, 2 failed"), 1, "5 passed, 2 failed")
+        self.assert_ends(self.check(ci="3 passed, 2 failed", ci_status=1), 1, "5 passed, 2 failed")
+        self.assert_ends(self.check(run="1 passed, 1 failed", run_status=1), 1, "4 passed, 1 failed")
+        self.assert_ends(self.check(ci="3 passed, 2 failed"), 1, "5 passed, 2 failed")
 
     def test_fails_where_a_part_prints_no_count(self):
-        self.assert_ends(self.gate(ci="killed", ci_status=137), 1, "2 passed, 1 failed")
-        self.assert_ends(self.gate(ci="all is well"), 1, "2 passed, 1 failed")
-        self.assert_ends(self.gate(run="Traceback", run_status=1), 1, "3 passed, 1 failed")
+        self.assert_ends(self.check(ci="killed", ci_status=137), 1, "2 passed, 1 failed")
+        self.assert_ends(self.check(ci="all is well"), 1, "2 passed, 1 failed")
+        self.assert_ends(self.check(run="Traceback", run_status=1), 1, "3 passed, 1 failed")
 
     def test_fails_where_a_part_ends_badly_after_its_count(self):
-        self.assert_ends(self.gate(ci_status=1), 1, "5 passed, 1 failed")
-        self.assert_ends(self.gate(run_status=1), 1, "5 passed, 1 failed")
+        self.assert_ends(self.check(ci_status=1), 1, "5 passed, 1 failed")
+        self.assert_ends(self.check(run_status=1), 1, "5 passed, 1 failed")
 
     def test_fails_where_nothing_ran(self):
-        self.assert_ends(self.gate(ci="0 passed, 0 failed", run="0 passed, 0 failed"), 1, "0 passed, 0 failed")
+        self.assert_ends(self.check(ci="0 passed, 0 failed", run="0 passed, 0 failed"), 1, "0 passed, 0 failed")
 
     def test_leaves_the_program_that_it_proved(self):
         self.sandbox.add_crates("low:\nfilehost: low\n")
         self.sandbox.let_time_pass()
-        self.gate()
+        self.check()
         self.sandbox.calls()
         self.assertEqual(self.launch(), [])
 
     def test_leaves_what_was_edited_meanwhile_to_be_built(self):
         self.sandbox.add_crates("low:\nfilehost: low\n")
         self.sandbox.let_time_pass()
-        self.gate(EDIT_MEANWHILE=str(self.sandbox.top / "crates/low/src/lib.rt"), SECONDS_A_CRATE="0.1")
+        self.check(EDIT_MEANWHILE=str(self.sandbox.top / "crates/low/src/lib.rt"), SECONDS_A_CRATE="0.1")
         self.sandbox.calls()
         self.assertEqual(self.launch(), ["build: ci low filehost"])
 
@@ -98,7 +98,7 @@ class Gate(unittest.TestCase):
 
     def test_builds_the_program_for_the_tests_where_the_gate_left_none(self):
         self.sandbox.add_crates("low:\nfilehost: low\n")
-        answer = self.gate(ci="1 passed, 1 failed", ci_status=1, NO_PROGRAM="yes")
+        answer = self.check(ci="1 passed, 1 failed", ci_status=1, NO_PROGRAM="yes")
         self.assert_ends(answer, 1, "3 passed, 1 failed")
         self.assertEqual(self.sandbox.calls(), ["repository: ci low filehost", "build: ci low filehost"])
 
@@ -110,21 +110,21 @@ class Gate(unittest.TestCase):
                 how = {"stdin": subprocess.DEVNULL, "stdout": subprocess.PIPE, "stderr": subprocess.PIPE, "start_new_session": True}
                 # If the tests were begun in the background, interrupts may be ignored, which no trap of a shell can change.
                 how["preexec_fn"] = lambda: signal.signal(signal.SIGINT, signal.SIG_DFL)
-                gate = subprocess.Popen([str(self.sandbox.top / "test")], env=environment, **how)
-                while gate.poll() is None and not self.sandbox.calls():
+                check = subprocess.Popen([str(self.sandbox.top / "test")], env=environment, **how)
+                while check.poll() is None and not self.sandbox.calls():
                     time.sleep(0.01)
                 began = time.monotonic()
-                os.killpg(gate.pid, number)
+                os.killpg(check.pid, number)
                 # The pipes end with the last process that has them.
-                _, err = gate.communicate(timeout=40)
+                _, err = check.communicate(timeout=40)
                 self.assertLess(time.monotonic() - began, 20)
                 # What is stopped may have begun a line of its own.
-                self.assertEqual(gate.returncode, 130)
+                self.assertEqual(check.returncode, 130)
                 self.assertTrue(err.endswith(b"test: stopped\n"), err)
                 self.assertEqual(list(self.sandbox.folder.glob("tmp.*")), [])
 
     def test_says_that_the_toolchain_is_missing(self):
-        self.assert_ends(self.gate(has_toolchain=False), 1, "0 passed, 1 failed")
+        self.assert_ends(self.check(has_toolchain=False), 1, "0 passed, 1 failed")
 
     def test_installs_what_the_tests_need_where_it_is_missing(self):
         tools = self.sandbox.tools
@@ -138,9 +138,9 @@ class Gate(unittest.TestCase):
             with self.subTest(missing):
                 for command in missing:
                     (tools / command).unlink()
-                self.assert_ends(self.gate(STORE=str(self.sandbox.top / "store")), 0, "5 passed, 0 failed")
+                self.assert_ends(self.check(STORE=str(self.sandbox.top / "store")), 0, "5 passed, 0 failed")
                 self.assertEqual(self.sandbox.calls(), ["apt-get update", "apt-get install", "repository: ci"])
-                self.assert_ends(self.gate(), 0, "5 passed, 0 failed")
+                self.assert_ends(self.check(), 0, "5 passed, 0 failed")
                 self.assertEqual(self.sandbox.calls(), ["repository: ci"])
 
     def test_says_in_one_line_what_cannot_be_installed(self):
@@ -165,17 +165,17 @@ class Gate(unittest.TestCase):
         for command in ("curl", "wget", "aria2c", "gcc", "python3"):
             with self.subTest(command):
                 (self.sandbox.tools / command).unlink()
-                self.assert_ends(self.gate(), 1, "0 passed, 1 failed")
+                self.assert_ends(self.check(), 1, "0 passed, 1 failed")
                 self.assertEqual(self.sandbox.calls(), [])
 
     def test_has_its_own_program_tested_whatever_the_variable_names(self):
         self.sandbox.write("tests/run", 'import os\nprint(os.environ.get("FILEHOST_PROGRAM", "its own"))\nprint("1 passed, 0 failed")\n')
-        self.assertEqual(self.gate(FILEHOST_PROGRAM="another")[1][-3:], ["its own", "1 passed, 0 failed", "4 passed, 0 failed"])
+        self.assertEqual(self.check(FILEHOST_PROGRAM="another")[1][-3:], ["its own", "1 passed, 0 failed", "4 passed, 0 failed"])
 
     def test_works_from_any_folder_and_as_the_merge_gate(self):
         for command in ("test", ".ci/run"):
             with self.subTest(command):
-                self.assert_ends(self.gate(command=command, at=self.sandbox.folder), 0, "5 passed, 0 failed")
+                self.assert_ends(self.check(command=command, at=self.sandbox.folder), 0, "5 passed, 0 failed")
                 self.assertEqual(self.sandbox.calls(), ["repository: ci"])
 
 
