@@ -1,7 +1,7 @@
 """Reads through the nodes of `filehost serve`, each again and again with another allocation refused: several ranges of a file that another node owns, with
 nothing in a cache; and a file whose load another connection waits for. Each reply is right, or says that there is no memory, and the connection goes on.
 
-What is expected follows from docs/WIRE.md, "Where there is no memory". A library in C refuses the allocations (refuse_on_demand.c), and another one holds a
+What is expected follows from docs/WIRE.md, "If memory runs out". A library in C refuses the allocations (refuse_on_demand.c), and another one holds a
 load (hold_file.c).
 """
 

@@ -96,7 +96,7 @@ class FullCheck(unittest.TestCase):
         self.assertIn("tests/run", lines[1])
         self.assertEqual(lines[2:], ["test: rt ci took 0 minutes", "test: python3 tests/run -j 2 took 0 minutes"])
 
-    def test_builds_the_program_for_the_tests_where_the_gate_left_none(self):
+    def test_builds_the_program_for_the_tests_where_rt_ci_left_none(self):
         self.sandbox.add_crates("low:\nfilehost: low\n")
         answer = self.check(ci="1 passed, 1 failed", ci_status=1, NO_PROGRAM="yes")
         self.assert_ends(answer, 1, "3 passed, 1 failed")
@@ -172,7 +172,7 @@ class FullCheck(unittest.TestCase):
         self.sandbox.write("tests/run", 'import os\nprint(os.environ.get("FILEHOST_PROGRAM", "its own"))\nprint("1 passed, 0 failed")\n')
         self.assertEqual(self.check(FILEHOST_PROGRAM="another")[1][-3:], ["its own", "1 passed, 0 failed", "4 passed, 0 failed"])
 
-    def test_works_from_any_folder_and_as_the_merge_gate(self):
+    def test_works_from_any_folder_and_as_the_merge_check(self):
         for command in ("test", ".ci/run"):
             with self.subTest(command):
                 self.assert_ends(self.check(command=command, at=self.sandbox.folder), 0, "5 passed, 0 failed")

@@ -53,7 +53,7 @@ class Edits(unittest.TestCase):
         self.assertEqual(changed, named, "run scripts/try-wrong-bodies, or name the crates in docs/CHECKS.md")
 
 
-    def test_are_in_the_gate_only_if_the_document_says_why(self):
+    def test_are_in_the_full_check_only_if_the_document_says_why(self):
         # The first edit of a crate that ./test tries costs everyone one more proof of that crate.
         told = (TOP / "docs" / "CHECKS.md").read_text().partition("\n| Crate | In `./test` | Why |\n")[2].partition("\n\n")[0]
         rows = re.findall(r"(?m)^\| `(\w+)` \| (\d+) \| \w.* \|$", told)
