@@ -26,9 +26,15 @@ def assert_files_are_there(test, text, least):
             test.assertTrue((TOP / "crates" / crate / "src" / file).is_file())
 
 
-def with_braces_expanded(text):
-    """A text with each file by itself of those that it names together, as in `crate/{one,other}.rt`."""
+def files_by_themselves(text):
+    """A text with each file by itself of those that it names together, as in `crate/{one,other}.rt` and `crate/*.rt`."""
+    text = re.sub(r"(?<![\w/])(\w+)/\*\.rt", lambda found: ", ".join(f"{found[1]}/{name}.rt" for name in modules_of(found[1])), text)
     return re.sub(r"([\w/]+/)\{([\w,]+)\}\.rt", lambda found: ", ".join(f"{found[1]}{name}.rt" for name in found[2].split(",")), text)
+
+
+def modules_of(crate):
+    """The names of a crate's files of code."""
+    return sorted(file.stem for file in (TOP / "crates" / crate / "src").glob("*.rt"))
 
 
 class Architecture(unittest.TestCase):
@@ -91,8 +97,7 @@ class OrderOfCrates(unittest.TestCase):
                     with self.subTest(page=str(page.relative_to(TOP)), first=names[0]):
                         self.assert_in_order(list(dict.fromkeys(names)))
         self.assertGreater(count, 3)
-        untried = read("docs", "CHECKS.md").partition("Still to be tried")[2].partition(".\n")[0]
-        self.assert_in_order(re.findall(r"`(\w+)`", untried))
+        self.assert_in_order(re.findall(r"(?m)^(\w+)$", read("scripts", "untried-crates.txt")))
         self.assert_in_order(re.findall(r"(?m)^(\w+) \d+ \d+$", read("scripts", "build-seconds.txt")))
 
     def test_has_its_headings_in_the_table_of_architecture(self):
@@ -111,8 +116,8 @@ class OrderOfCrates(unittest.TestCase):
 class Map(unittest.TestCase):
     """docs/MAP.md."""
 
-    text = with_braces_expanded(read("docs", "MAP.md"))
-    groups = re.split(r"(?m)^## ", text.partition("\n# ")[0])[1:]
+    text = files_by_themselves(read("docs", "MAP.md"))
+    groups = re.split(r"(?m)^## ", text)[1:]
 
     # What a maintainer looks for, in the words by which a row or a group begins.
     looked_for = (
@@ -121,6 +126,19 @@ class Map(unittest.TestCase):
         "404 and refusal names", "owner of a key", "path decoding", "publishes itself", "Range", "store lock", "timeouts", "torn tail", "undo",
         "who may deploy", "idle", "EMFILE", "disk full", "signal", "SIGTERM", "epoll", "environment", "version",
     )
+
+    # The rows for each section of docs/HTTP.md and docs/WIRE.md.
+    rows_of_sections = {
+        "Routes": ["routes", "405, Allow"], "Targets": ["path decoding", "numbers", "names"], "The body of a deploy": ["deploy JSON"],
+        "The other bodies": ["other bodies"], "Reading a file": ["read", "Range", "If-Range", "multipart"], "Opening a deploy": ["publishes itself"],
+        "Uploading a file": ["upload"], "Changing a site": ["command"], "A deploy, and the changes of a site": ["deploy shown", "list of changes"],
+        "Undoing a change": ["undo"], "JSON in replies": ["reply JSON", "refusal JSON"], "Refusals": ["404 and refusal names"], "Types of files": ["MIME"],
+        "The head of a request": ["head end", "head parsed", "head refused"], "The body of a request": ["body length", "Expect"],
+        "Limits of bodies": ["body limit"], "A reply": ["reply bytes", "HEAD"], "If memory runs out": ["out of memory"],
+        "If the journal's device fails": ["Broken"], "When a connection ends": ["keep-alive"], "Deadlines and places": ["timeouts", "places"],
+        "Threads": ["threads", "worker", "errand"], "The end of serve": ["SIGTERM"], "What the operator is told": ["operator"], "Memory": ["room"],
+        "A client that still sends": ["lingering close"],
+    }
 
     def test_has_eight_groups(self):
         titles = [group.partition("\n")[0] for group in self.groups]
@@ -165,20 +183,14 @@ class Map(unittest.TestCase):
                     self.assertTrue(re.search(rf"\b(fn|ensures|ghost|for|impl|trait|struct) {name}\b", code))
         self.assertGreater(count, 150)
 
-    def test_names_definitions_and_calls_of_each_section_of_the_interface_and_the_wire(self):
-        wire = ("http_wire", "host_api", "host_replies", "host_answers", "host_connection", "host_server", "range_spec", "range_reply")
-        crates = (*wire, "connection_rules", "event_loop", "host_nodes", "operator_notices", "peer_link", "shared_house", "site_change", "host_names", "journaled_history")
-        files = [file for crate in crates for folder in ("specs", "src") for file in (TOP / "crates" / crate / folder).rglob("*.*")]
-        text = "\n".join(file.read_text() for file in files)
-        for page in ("HTTP.md", "WIRE.md"):
-            told = self.text.partition(f"\ndocs/{page}:\n")[2].partition("\n\ndocs/")[0]
-            rows = re.findall(r"(?m)^\| ([A-Z][^|`]*) \| (`[^|]*) \|$", told)
-            sections = set(re.findall(r"(?m)^## (.*)$", read("docs", page))) - {"What to write in a client", "Not supported"}
-            self.assertEqual({section for section, _ in rows}, sections)
-            for section, names in rows:
-                for name in re.findall(r"`(\w+)`", names):
-                    with self.subTest(section=section, name=name):
-                        self.assertTrue(re.search(rf"(?m)^(?:\w+ )*{name}\b[^=\n]*:|\b(?:fn|enum|struct) {name}\b", text))
+    def test_has_a_row_for_each_section_of_the_interface_and_the_wire(self):
+        """One that names a definition or a call."""
+        sections = [section for page in ("HTTP.md", "WIRE.md") for section in re.findall(r"(?m)^## (.*)$", read("docs", page))]
+        self.assertEqual(set(sections), {"What to write in a client", "Not supported", *self.rows_of_sections})
+        for section, words in self.rows_of_sections.items():
+            for word in words:
+                with self.subTest(section=section, word=word):
+                    self.assertTrue(re.search(rf"(?m)^\| [^|]*\*\*{re.escape(word)}\b[^|]* \| [^|]*`\w", self.text))
 
 
 class Pages(unittest.TestCase):
