@@ -142,9 +142,8 @@ class Map(unittest.TestCase):
 
     def test_has_eight_groups(self):
         titles = [group.partition("\n")[0] for group in self.groups]
-        self.assertEqual(titles, re.findall(r"(?m)^\d\. \[(.*?)\]", self.text))
         self.assertEqual(len(titles), 8)
-        self.assertIn("Not in the program", titles)
+        self.assertEqual(titles[-1], "Not in the program")
 
     def test_leads_with_the_words_that_are_looked_for(self):
         leads = re.findall(r"(?m)^\| (\*\*.*?) \| ", self.text)
