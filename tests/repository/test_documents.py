@@ -204,9 +204,9 @@ class Pages(unittest.TestCase):
                 self.assertEqual([line for line in lines if len(line) > 160 and not line.startswith("|")], [])
 
     def test_stay_within_their_sizes(self):
-        """README.md has at most 120 lines, and the folder docs at most 195 KB."""
+        """README.md has at most 120 lines, and the folder docs at most 180 KB."""
         self.assertLessEqual(len(read("README.md").splitlines()), 120)
-        self.assertLessEqual(sum(file.stat().st_size for file in (TOP / "docs").rglob("*") if file.is_file()), 195_000)
+        self.assertLessEqual(sum(file.stat().st_size for file in (TOP / "docs").rglob("*") if file.is_file()), 180_000)
 
     def test_name_files_of_the_repository_that_are_there(self):
         for page in PAGES:
