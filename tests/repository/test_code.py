@@ -9,6 +9,7 @@ import sys
 import unittest
 
 from lib.repository import TOP, crates
+from clause_lines import lines_of_clauses
 
 FOLDERS = ("tests", *(f"tests/{folder.name}" for folder in sorted((TOP / "tests").iterdir()) if folder.is_dir()), "scripts", "bench", "operate", "examples", "client/filehost_client")
 # The crates in which some lines of clauses are still over 120 columns.
@@ -79,16 +80,6 @@ def has_body(text):
         if line.endswith("{") and line not in clauses:
             return True
     return True
-
-
-def lines_of_clauses(text):
-    """The lines of code on which the clauses of functions and the ghost items of traits stand."""
-    lines, depth = [], 0
-    for line in text.splitlines():
-        if depth or re.match(r" *(?:requires|ensures)\b.*\{|ghost \w+ ?[=:] ?\{", line.lstrip() if "ghost" in line else line):
-            lines.append(line)
-            depth += line.count("{") - line.count("}")
-    return lines
 
 
 def misnamed(text):
