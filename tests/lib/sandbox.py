@@ -41,7 +41,7 @@ class Sandbox:
             (self.tools / tool).symlink_to(shutil.which(tool))
         (self.tools / "python3").symlink_to(sys.executable)
         # That they are there is all that the scripts ask of them.
-        for tool in ("curl", "wget", "aria2c", "gcc"):
+        for tool in ("curl", "wget", "aria2c", "gcc", "shellcheck"):
             (self.tools / tool).symlink_to(shutil.which("true"))
         (self.folder / "toolchain").mkdir()
         shutil.copy(FAKE_RT, self.folder / "toolchain" / "rt")

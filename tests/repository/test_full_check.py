@@ -129,12 +129,13 @@ class FullCheck(unittest.TestCase):
     def test_installs_what_the_tests_need_where_it_is_missing(self):
         tools = self.sandbox.tools
         self.sandbox.write("store/python3", f'#!/usr/bin/env bash\nexec {sys.executable} "$@"\n', 0o755)
-        for name in ("curl", "wget", "aria2", "gcc"):
+        for name in ("curl", "wget", "aria2", "gcc", "shellcheck"):
             self.sandbox.write(f"store/{name}", "#!/usr/bin/env bash\n", 0o755)
         for name, text in (("apt-get", FAKE_APT_GET), ("sudo", '#!/usr/bin/env bash\nexec "$@"\n')):
             (tools / name).write_text(text)
             (tools / name).chmod(0o755)
-        for missing in (["python3"], ["curl"], ["wget"], ["aria2c"], ["gcc"], ["python3", "curl", "wget", "aria2c", "gcc"]):
+        everything = ["python3", "curl", "wget", "aria2c", "gcc", "shellcheck"]
+        for missing in (*([command] for command in everything), everything):
             with self.subTest(missing):
                 for command in missing:
                     (tools / command).unlink()
@@ -167,6 +168,13 @@ class FullCheck(unittest.TestCase):
                 (self.sandbox.tools / command).unlink()
                 self.assert_ends(self.check(), 1, "0 passed, 1 failed")
                 self.assertEqual(self.sandbox.calls(), [])
+
+    def test_goes_on_without_shellcheck_if_it_cannot_be_installed(self):
+        (self.sandbox.tools / "shellcheck").unlink()
+        self.assert_ends(self.check(), 0, "5 passed, 0 failed")
+        for name in ("apt-get", "sudo"):
+            (self.sandbox.tools / name).symlink_to(shutil.which("true"))
+        self.assert_ends(self.check(), 0, "5 passed, 0 failed")
 
     def test_has_its_own_program_tested_whatever_the_variable_names(self):
         self.sandbox.write("tests/run", 'import os\nprint(os.environ.get("FILEHOST_PROGRAM", "its own"))\nprint("1 passed, 0 failed")\n')
