@@ -152,6 +152,13 @@ class Scripts(unittest.TestCase):
             ran = subprocess.run([pyflakes, *self.python], capture_output=True, text=True)
             self.assertEqual(ran.stdout + ran.stderr, "")
 
+    def test_shell_scripts_without_an_ending_are_named_for_editors(self):
+        named = re.search(r"(?m)^\[\{(filehost,.*)\}\]$", (TOP / ".editorconfig").read_text())[1].split(",")
+        for file in self.shell:
+            if not file.suffix:
+                with self.subTest(file.name):
+                    self.assertTrue(any(file.relative_to(TOP).match(pattern) for pattern in named))
+
     def test_shell_scripts_pass_shellcheck(self):
         """Where shellcheck isn't installed, the test says so and passes."""
         self.assertLessEqual({"filehost", "test", "build", "install", "program_sources.sh"}, {file.name for file in self.shell})
