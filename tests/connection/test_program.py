@@ -29,7 +29,7 @@ class FirstRun(Program):
     def test_is_answered_byte_for_byte(self):
         self.assert_answers(self.given, self.wanted)
 
-    def test_is_the_run_that_the_gate_makes(self):
+    def test_is_the_run_that_the_full_check_makes(self):
         stored = [(CRATE / name).read_bytes() for name in ("args", "stdin", "stdout")]
         self.assertEqual(stored, [b"solo\n", self.given, self.wanted])
 

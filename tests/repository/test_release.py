@@ -217,7 +217,7 @@ class Release(Served, Program):
 class Current(unittest.TestCase):
     """The program in dist/ of this repository."""
 
-    def test_dist_is_what_the_gate_built_where_it_is_of_these_sources(self):
+    def test_dist_is_what_the_full_check_built_where_it_is_of_these_sources(self):
         script = 'root=$1; shopt -s nullglob; source "$root/scripts/program_sources.sh"; list_sources'
         sums = subprocess.run(["bash", "-c", script, "bash", TOP], capture_output=True, text=True, check=True).stdout
         self.assertEqual((TOP / ITS_SUM).read_text(), f"{digest(TOP / RELEASED)}\n")
