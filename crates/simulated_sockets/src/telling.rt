@@ -73,11 +73,14 @@ impl World {
                 .any(|caller| caller.told_by(set).is_some())
     }
 
-    /// Whether a worker may take a turn: its set has something to tell, or it has waited for as long as it waits at most.
+    /// Whether a worker may take a turn: its set has something to tell, it has waited for as long as it waits at most, or its last turn came when the time of a
+    /// drain was over: before it waits again, it looks whether the node is over.
     pub fn may_turn(&self, set: usize) -> bool {
         let is_awake = match self.ears.get(set) {
             Some(ear) => {
-                ear.has_told || self.now.saturating_sub(ear.turned) >= self.limits.sweep
+                ear.has_told
+                    || ear.turned >= self.drained_by.unwrap_or(u64::MAX)
+                    || self.now.saturating_sub(ear.turned) >= self.limits.sweep
             }
             None => false,
         };
