@@ -7,8 +7,9 @@ chunk wait for the same load, and what is in a node's cache is read past the she
 import random
 import time
 
-from lib.client import PATIENCE, digest_of, done, request, sent, to_head
+from lib.client import PATIENCE, REQUESTS, digest_of, done, request, sent, to_head
 from lib.held_file import HeldFile
+from lib.ring import NO_CHUNK, PEERS, asking_for as asking_node_for
 from lib.served import Served, ask, publish
 from lib.worked_runs import entry, removing, undoing
 
@@ -18,6 +19,8 @@ FILES = {path: random.Random(path).randbytes(size) for path, size in (("/x.txt",
 LOADED = ["opened", "held", "went on"]
 # The longest that a node waits for another one, in seconds.
 FETCH = 2
+# How many other nodes ask at once, each as often as one may over a connection, and how many times.
+AT_ONCE, ROUNDS = 8, 20
 
 
 def asking_for(path, method="GET"):
@@ -184,3 +187,15 @@ class Nodes(Held):
                 first = self.hold(node)
                 second = self.plug(asking_for("/x.txt"), 1 - node)
                 self.assert_goes_on(first, second)
+
+
+class Joined(Served):
+    """Loads that others join at any moment, also at their end."""
+
+    def test_each_is_answered_who_asks_for_a_chunk_that_is_not_there(self):
+        """Nothing is kept of it, so each request begins a load, or joins the one of another thread."""
+        self.serve()
+        for _ in range(ROUNDS):
+            plugs = [self.plug(asking_node_for(b"of no file") * REQUESTS, PEERS) for _ in range(AT_ONCE)]
+            for plug in plugs:
+                self.assert_receives(plug, NO_CHUNK * REQUESTS)

@@ -70,17 +70,22 @@ class Reads(Served):
         self.assertEqual(self.held.told(), ["held"])
         return count
 
-    def play(self, changing):
-        """A change is held while all read, and then another one takes it back."""
-        plugs = [plug for node in range(self.nodes) for plug in self.learn(node)]
-        waiting = self.hold(changing)
-        self.assertEqual(self.count(plugs), (len(plugs) + self.nodes) * len(READS))
+    def let_go(self, changing, waiting):
+        """The change goes on, and another one takes it back, over a connection that this returns."""
         self.assert_silent(changing)
         self.held.open()
         self.assert_receives(changing, entry(self.last + 1))
         waiting = waiting or self.plug(undoing(self.last + 1))
         self.assert_receives(waiting, entry(self.last + 2))
         self.last += 2
+        return waiting
+
+    def play(self, changing):
+        """A change is held while all read, and then another one takes it back."""
+        plugs = [plug for node in range(self.nodes) for plug in self.learn(node)]
+        waiting = self.hold(changing)
+        self.assertEqual(self.count(plugs), (len(plugs) + self.nodes) * len(READS))
+        waiting = self.let_go(changing, waiting)
         # It has seen the undo, or not: another connection asked for it.
         self.exchange(waiting, *READS[2])
         for plug in (*plugs, waiting):
@@ -93,3 +98,16 @@ class Reads(Served):
                 changing = self.plug()
                 for _ in range(ROUNDS):
                     self.play(changing)
+
+    def test_that_of_whoever_made_the_last_change_comes_to_no_desk(self):
+        """The connection knows of it by its receipt, and its worker has looked at nothing since."""
+        self.nodes = 2
+        self.begin(workers=1, nodes=self.nodes)
+        plug, changing = self.plug(), self.plug(node=1)
+        self.last += 2
+        self.exchange(plug, opening({"/kept.txt": digest_of(KEPT)}, site="two"), opened(self.last - 1, published=self.last))
+        waiting = self.hold(changing)
+        for asked, wanted in READS:
+            self.exchange(plug, asked, wanted)
+        self.assertEqual(self.held.told(), ["held"])
+        self.let_go(changing, waiting)
