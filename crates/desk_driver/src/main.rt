@@ -1,4 +1,4 @@
-//! Threads at one desk, and threads at nodes and lists, for tests and measurements: a run does what its words name. tests/test_desk.py has what is played at
+//! Threads at one desk, and threads at nodes and lists, for tests and measurements: a run does what its words name. test_desk.py has what is played at
 //! a desk, and bench/README.md has the measurements.
 #![tactic(auto)]
 

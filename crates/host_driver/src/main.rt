@@ -1,5 +1,5 @@
 //! Calls a host, its parts and its journal, and a world, for tests and measurements: a run does what its words name. bench/README.md has the measurements;
-//! tests/test_steps.py, tests/test_worlds.py, tests/test_journal.py and tests/test_journal_files.py have the rest.
+//! test_steps.py, test_worlds.py, test_journal.py and test_journal_files.py have the rest.
 #![tactic(auto)]
 
 mod calls;

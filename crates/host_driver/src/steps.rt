@@ -1,4 +1,4 @@
-//! Connections in steps or at once, each over a server of its own: a line for each. tests/test_steps.py has the lines, and compares what is written.
+//! Connections in steps or at once, each over a server of its own: a line for each. test_steps.py has the lines, and compares what is written.
 mod pieces;
 mod scripts;
 pub(crate) mod serving;

@@ -1,4 +1,4 @@
-//! Lists of steps in a world, and what visitors then have: a line for each step, and one for each time that this is told. tests/test_worlds.py draws the
+//! Lists of steps in a world, and what visitors then have: a line for each step, and one for each time that this is told. test_worlds.py draws the
 //! lists, and compares what is told with a plain model: so the plain models of histories and of replies serve it too, and no model has to be proved.
 mod played;
 mod requests;

@@ -11,7 +11,7 @@ use std::alloc::Global;
 use std::process::Abort;
 use std::test::Fail;
 
-/// The texts of entries of all kinds, which docs/STORAGE.md describes. tests/test_journal_files.py has the entries.
+/// The texts of entries of all kinds, which docs/STORAGE.md describes. test_journal_files.py has the entries.
 const ENTRIES: &str = "\
 00 03 6f6e65 0000000000000005
 01 03 6f6e65 00 00000000
