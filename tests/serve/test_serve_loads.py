@@ -20,7 +20,7 @@ LOADED = ["opened", "held", "went on"]
 # The longest that a node waits for another one, in seconds.
 FETCH = 2
 # How many other nodes ask at once, each as often as one may over a connection, and how many times.
-AT_ONCE, ROUNDS = 8, 20
+AT_ONCE, ROUNDS = 12, 50
 
 
 def asking_for(path, method="GET"):
@@ -199,3 +199,4 @@ class Joined(Served):
             plugs = [self.plug(asking_node_for(b"of no file") * REQUESTS, PEERS) for _ in range(AT_ONCE)]
             for plug in plugs:
                 self.assert_receives(plug, NO_CHUNK * REQUESTS)
+                plug.close()

@@ -7,7 +7,7 @@ folder was synced, or not.
 
 import os
 
-from lib.client import digest_of, run
+from lib.client import PATIENCE, digest_of, run
 from lib.crash_images import stops_of
 from lib.file_traces import Traces
 from lib.generated_histories import in_json
@@ -191,6 +191,18 @@ class Runs(Stops):
                 made = [f"pwrite journal.2 0 {journal.SHUT.hex()}", f"pwrite journal.2 1 {journal.EMPTY[1:].hex()}", f"pwrite journal.2 0 {journal.OPEN.hex()}"]
                 self.assertEqual((trace[3:9:2], trace[4:9:2]), (made, ["fdatasync journal.2"] * 3))
                 self.assert_each_counts(CHANGES, trace, contents, 9)
+
+    def test_in_a_new_store_the_folder_is_synced_once_it_has_both_slots(self):
+        """A crash keeps no name that came later. The program is killed in place of that sync, which is its first call."""
+        starts = {
+            "solo": lambda environment: run(*self.words, env=os.environ | environment),
+            "serve": lambda environment: self.start("--store", str(self.folder), environment=environment).wait(PATIENCE),
+        }
+        for command in COMMANDS:
+            with self.subTest(command):
+                self.begin_anew()
+                self.assertEqual(Traces(self.room, self.folder).of(starts[command], stop=1), ["fsync folder"])
+                self.assertEqual(self.all_files(), dict.fromkeys(journal.SLOTS, b""))
 
     def begin_anew(self):
         self.begin(Model())
