@@ -37,6 +37,14 @@ def sent_to(port):
     return unread
 
 
+def held_for(plug):
+    """How many bytes the system holds that were written to the other end of a connection, and that this end hasn't taken."""
+    ends = [f":{end[1]:04X}".encode() for end in (plug.getpeername(), plug.getsockname())]
+    with open("/proc/net/tcp", "rb") as file:
+        lines = [line.split() for line in file]
+    return next(int(line[4].split(b":")[0], 16) for line in lines if [end[-5:] for end in line[1:3]] == ends)
+
+
 class Body:
     """The body of a reply that is read: its digest, and how many bytes it has."""
 

@@ -7,7 +7,7 @@ chunk wait for the same load, and what is in a node's cache is read past the she
 import random
 import time
 
-from lib.client import PATIENCE, REQUESTS, digest_of, done, request, sent, to_head
+from lib.client import HELLO, PATIENCE, REQUESTS, digest_of, done, opened, opening, refused, request, sent, to_head
 from lib.held_file import HeldFile
 from lib.ring import NO_CHUNK, PEERS, asking_for as asking_node_for
 from lib.served import Served, ask, publish
@@ -17,6 +17,9 @@ from lib.worked_runs import entry, removing, undoing
 FILES = {path: random.Random(path).randbytes(size) for path, size in (("/x.txt", 60_000), ("/y.txt", 50_000), ("/z.txt", 65_536))}
 # What is told of a file that was loaded once.
 LOADED = ["opened", "held", "went on"]
+# A body that takes long to be parsed, and asks for nothing, and how many requests come meanwhile.
+LONG = b'{"files":{"/a":"no digest"},"x":[' + b'{"":0},' * 590_000 + b'{"":0}]}'
+WAITING = 8
 # The longest that a node waits for another one, in seconds.
 FETCH = 2
 # How many other nodes ask at once, each as often as one may over a connection, and how many times.
@@ -134,6 +137,23 @@ class Loads(Held):
         first, client, content = self.hold(), self.client(), bytes(200_000)
         publish(client, {"/new.txt": content}, site="two")
         self.assertEqual(ask(client, "GET", "/s/two/new.txt"), (200, content))
+        self.assert_goes_on(first)
+
+    def test_those_that_wait_for_a_thread_are_answered_in_their_order(self):
+        """The load holds one of the two threads that may wait. The other one parses a long body when they come."""
+        self.begin(workers=1)
+        first, plugs = self.hold(), [self.plug(asking_for("/y.txt")) for _ in range(WAITING)]
+        for plug in plugs:
+            self.assert_receives(plug, reply_with("/y.txt"))
+        long = self.plug(request("POST", "/api/v1/sites/one/deploys", body=LONG))
+        time.sleep(0.1)
+        for plug in plugs:
+            plug.sendall(opening({"/new.txt": HELLO}, "two"))
+            time.sleep(0.002)
+        self.assert_receives(long, refused("BadDigest"))
+        # The files were published by the second entry.
+        for number, plug in enumerate(plugs, 3):
+            self.assert_receives(plug, opened(number, HELLO))
         self.assert_goes_on(first)
 
     def test_goes_on_though_its_client_has_gone(self):

@@ -15,6 +15,7 @@ from lib.client import REQUESTS, digest_of, request, sent
 from lib.crowds import LONGEST, WHOLE, Crowds
 from lib.held_file import HeldFile
 from lib.ring import NO_CHUNK, PEERS, answer_with, asking_for, owner
+from lib.rows import OTHER
 from lib.served import FILE, ask, free_ports, publish
 from lib.stores import PIECE, opening_of, pieces_of, write_store
 
@@ -24,6 +25,14 @@ QUIET, KEPT, ROUNDS = 1_200, 8, 3
 # How long a node waits for another one, in seconds, how long it passes over one that gave no answer, and how soon it asks that again then.
 FETCH, PASSED_OVER, SOON = 2, 5, 1
 TOLD = re.compile(r"filehost: \S+Z peer: node (\S+) (is passed over for 5 seconds|answers again)\n")
+
+
+def unaccepted_at(port):
+    """How many connections have come to a port and weren't accepted."""
+    with open("/proc/net/tcp", "rb") as file:
+        lines = [line.split() for line in file]
+    # The one that listens is in this state.
+    return next(int(line[4].partition(b":")[2], 16) for line in lines if line[3] == b"0A" and line[1].endswith(b":%04X" % port))
 
 
 class Nodes(Crowds):
@@ -101,6 +110,26 @@ class Nodes(Crowds):
         self.assertEqual(self.held.told(), ["opened", "held", "opened"])
         self.assert_in_time(lambda: self.told() == [(f"127.0.0.1:{self.port + PEERS + 1}", "is passed over for 5 seconds")], 2)
         self.held.open()
+
+    def test_one_that_still_gives_nothing_is_asked_a_single_question(self):
+        """Both of its threads for other nodes want the same piece, whose read is held. So what it is asked later stays where it came."""
+        self.begin_cold(most=1)
+        self.held.close()
+        _, content = self.owned[1].pop()
+        holding = [self.plug(asking_for(content), PEERS + 1) for _ in range(2)]
+        self.held.wait("opened", "held")
+        (path, content), began = self.owned[1].pop(), time.monotonic()
+        self.assertEqual(self.read(f"/s/two{path}"), (200, content))
+        self.assertGreater(time.monotonic() - began, FETCH / 2)
+        asked = unaccepted_at(self.port + PEERS + 1)
+        time.sleep(PASSED_OVER + SOON)
+        files = [self.owned[1].pop() for _ in range(2)]
+        plugs = [self.plug(request("GET", f"/s/two{path}")) for path, _ in files]
+        for plug, (_, content) in zip(plugs, files):
+            self.assert_receives(plug, sent(content, kind=OTHER))
+        self.assertEqual(unaccepted_at(self.port + PEERS + 1), asked + 1)
+        self.held.open()
+        del holding
 
     def test_all_stretches_of_a_request_share_the_time_for_other_nodes(self):
         """The owner of the first one gives nothing until that is over. So the owner of the second one isn't asked any more."""

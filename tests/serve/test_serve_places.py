@@ -5,6 +5,7 @@ What is expected follows from docs/WIRE.md, "Deadlines and places", and from `se
 
 import contextlib
 import itertools
+import json
 import os
 import resource
 import select
@@ -264,6 +265,24 @@ class First(Ways):
         kept[0].sendall(request("GET", "/s/two/cold"))
         self.assert_receives(kept[0], sent(content, kind=OTHER))
         self.assertLess(seconds_until_closed(silent, SOON), SOON)
+        for plug in kept:
+            plug.sendall(GET)
+            self.assert_receives(plug, HELLO)
+
+    def test_silent_clients_go_for_an_upload_before_those_that_were_answered(self):
+        """Neither its piece nor its table finds a descriptor, nor the folder that is synced after these."""
+        self.begin("--store", str(self.folder()), second=WHOLE)
+        client, kept = self.client(), self.crowd(4, GET)
+        for plug in kept:
+            self.assert_receives(plug, HELLO)
+        status, told = ask(client, "POST", "/api/v1/sites/two/deploys", f'{{"files":{{"/a":"{digest_of(b"a")}"}}}}')
+        self.assertEqual(status, 200, told)
+        silent = self.crowd_later(4)
+        self.assert_in_time(lambda: self.sockets() == 1 + len(kept + silent), GRACE)
+        self.let_have(0)
+        status, told = ask(client, "PUT", f"/api/v1/deploys/{json.loads(told)['id']}/files/a", b"a")
+        self.assertEqual(status, 200, told)
+        self.assertNotEqual(select.select(silent, [], [], SOON)[0], [])
         for plug in kept:
             plug.sendall(GET)
             self.assert_receives(plug, HELLO)

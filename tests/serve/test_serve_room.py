@@ -12,9 +12,9 @@ import threading
 import time
 
 from lib.client import LARGEST_FILE, PATIENCE, SECONDS, digest_of, request, sent
-from lib.crowds import WHOLE, reset
+from lib.crowds import GRACE, WHOLE, reset
 from lib.launched import limited_to
-from lib.rooms import MEBIBYTE, OF_BODIES, OF_REPLIES, WAIT, Room
+from lib.rooms import MEBIBYTE, OF_BODIES, OF_REPLIES, WAIT, Room, held_for
 from lib.served import FILE, ask, publish, sockets_of
 from lib.stalls import Stalls
 from lib.stores import PIECE, files_of, opening_of
@@ -43,6 +43,8 @@ CONTENTS, CACHED = 8, 2
 FEW, HELLO = 64, sent(b"hello")
 # How many replies hold one file, which is read from the store for each.
 HOLDERS = 8
+# How many bytes the system holds of a reply at most, and how many it holds for a client that takes none.
+SYSTEM, FAR = 262_144, 65_536
 
 
 class Rooms(Room):
@@ -235,6 +237,12 @@ class Rooms(Room):
         for plug in [moving, *others]:
             self.assertEqual(len(self.received(plug, MUCH)), MUCH)
         self.assertLess(len(self.received(once, LARGEST_FILE - MUCH)), MUCH)
+
+    def test_the_system_holds_as_much_of_a_reply_as_a_client_far_away_takes_at_once(self):
+        """With less, each round trip would bring but a few bytes; with more, a slow client would be late."""
+        self.begin(files={"/large": bytes(MUCH)}, second=WHOLE)
+        plug = self.reader("/s/one/large")
+        self.assert_in_time(lambda: FAR < held_for(plug) <= SYSTEM, GRACE)
 
     def test_readers_of_one_file_are_not_cut(self):
         self.serve("--workers", "4", second=WHOLE)
