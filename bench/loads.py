@@ -1,20 +1,18 @@
-"""The loads of bench/serve: what is asked for, by how many connections, and what came of it."""
+"""The loads of bench/serve: what is asked for, by how many connections and which client, and what came of it."""
 
-import concurrent.futures
-import itertools
 import re
-import socket
-import struct
 import subprocess
-import time
 import typing
 
+from discarding import ask_all, request_for
 from range_answers import fault_of, parts_of
-from servers import HOST, PATIENCE, closes, find, length_of
-from tables import check, random_bytes, timed
+from servers import HOST, PATIENCE, find
+from tables import check, random_bytes
 
 SMALL, LARGE, RANGED = "/4k", "/1m", "/ranged"
 FILES = {SMALL: random_bytes("small", 4 << 10), LARGE: random_bytes("large", 1 << 20), RANGED: random_bytes("large", 1 << 20)}
+# Many files of 4 KiB, which are read in turn.
+MANY = {f"/4k-{number}": random_bytes(f"small {number}", 4 << 10) for number in range(1_000)}
 THREADS = 2
 UNITS = {"us": 1e-6, "ms": 1e-3, "s": 1, "m": 60, "h": 3600}
 SIZES = {"": 1, "K": 1 << 10, "M": 1 << 20, "G": 1 << 30, "T": 1 << 40}
@@ -31,7 +29,8 @@ def ranges(*firsts):
 
 class Load(typing.NamedTuple):
     title: str
-    path: str
+    # What is asked for, in turn; wrk asks for the first alone.
+    paths: tuple
     connections: int
     # The rate that is wanted of filehost, for one of nginx.
     wanted: float | None = None
@@ -40,13 +39,15 @@ class Load(typing.NamedTuple):
 
 
 LOADS = (
-    Load("4 KiB, 1 connection", SMALL, 1),
-    Load("4 KiB, 16 connections", SMALL, 16, 1.3),
-    Load("4 KiB, 64 connections", SMALL, 64, 1.2),
-    Load("4 KiB, a connection a request", SMALL, 16, 0.95, (("Connection", "close"),)),
-    Load("a range of 64 KiB", RANGED, 16, 1.1, ranges(300_000)),
-    Load("four ranges of 64 KiB", RANGED, 16, 1.1, ranges(100_000, 350_000, 600_000, 850_000)),
-    Load("1 MiB, discarded", LARGE, 16, 0.8, (), True),
+    Load("4 KiB, 1 connection", (SMALL,), 1),
+    Load("4 KiB, 16 connections", (SMALL,), 16, 1.5),
+    Load("4 KiB, 16 connections, discarded", (SMALL,), 16, 1.6, (), True),
+    Load("4 KiB, 64 connections", (SMALL,), 64, 1.35),
+    Load("1,000 files of 4 KiB, discarded", (*MANY,), 16, 1.4, (), True),
+    Load("4 KiB, a connection a request", (SMALL,), 16, 0.93, (("Connection", "close"),)),
+    Load("a range of 64 KiB, discarded", (RANGED,), 16, 1.2, ranges(300_000), True),
+    Load("four ranges of 64 KiB, discarded", (RANGED,), 16, 1.1, ranges(100_000, 350_000, 600_000, 850_000), True),
+    Load("1 MiB, discarded", (LARGE,), 16, 0.77, (), True),
 )
 
 
@@ -59,21 +60,25 @@ class Outcome(typing.NamedTuple):
 
 
 def checked_length(server, load):
-    """The length of the body with which a server answers a load's request. The reply must be the right one."""
+    """The length of the bodies with which a server answers a load's requests. Each reply must be the right one."""
     # A server ends a connection on which nothing came for long; this request makes a new one.
     server.reader.connection.close()
-    status, fields, body = server.get(load.path, *load.fields)
-    value, content = dict(load.fields).get("Range"), FILES[load.path]
-    is_right = status == 206 and fault_of(parts_of(fields, body), content, value) is None if value else status == 200 and body == content
-    check(is_right, f"{server.title} answers with {status} and {len(body):,} bytes: {load.title}")
-    return len(body)
+    value, lengths = dict(load.fields).get("Range"), set()
+    for path in load.paths:
+        content = (FILES | MANY)[path]
+        status, fields, body = server.get(path, *load.fields)
+        is_right = status == 206 and fault_of(parts_of(fields, body), content, value) is None if value else status == 200 and body == content
+        check(is_right, f"{server.title} answers with {status} and {len(body):,} bytes: {load.title}")
+        lengths.add(len(body))
+    check(len(lengths) == 1, f"{server.title} answers with bodies of {lengths} bytes: {load.title}")
+    return lengths.pop()
 
 
 def run_wrk(server, load, length, seconds):
     """The outcome of a load that wrk makes. A fault of one request, or bodies of another length, end the run."""
     words = ["-t", min(THREADS, load.connections), "-c", load.connections, "-d", f"{seconds}s", "--timeout", f"{PATIENCE}s", "--latency"]
     words += [word for field in load.fields for word in ("-H", ": ".join(field))]
-    command = [find("wrk"), *map(str, words), f"http://{HOST}:{server.port}{server.target(load.path)}"]
+    command = [find("wrk"), *map(str, words), f"http://{HOST}:{server.port}{server.target(load.paths[0])}"]
     ran = subprocess.run(command, capture_output=True, text=True, timeout=seconds + 2 * PATIENCE)
     said = SAID.search(ran.stdout)
     is_well = said and ran.returncode == 0 and "Socket errors" not in ran.stdout and "Non-2xx" not in ran.stdout
@@ -85,59 +90,9 @@ def run_wrk(server, load, length, seconds):
     return Outcome(count, float(said["rate"]), float(said["late"]) * UNITS[said["unit"]])
 
 
-class Discarder:
-    """A client with one connection, made again if the server ends it, whose bodies the kernel discards: none of their bytes is copied, except those that come
-    with the head."""
-
-    def __init__(self, server, load, length):
-        fields = "".join(f"{name}: {value}\r\n" for name, value in load.fields)
-        self.asked = f"GET {server.target(load.path)} HTTP/1.1\r\nHost: {HOST}\r\n{fields}\r\n".encode()
-        self.what = f"a reply of {server.title} to {load.title}"
-        self.port, self.length, self.room, self.connection = server.port, length, bytearray(length), None
-
-    def connect(self):
-        self.connection = socket.create_connection((HOST, self.port))
-        # With a time limit of Python's own, a call would not wait for all that it asks for.
-        self.connection.setsockopt(socket.SOL_SOCKET, socket.SO_RCVTIMEO, struct.pack("ll", PATIENCE, 0))
-
-    def close(self):
-        if self.connection:
-            self.connection.close()
-            self.connection = None
-
-    def get(self):
-        if not self.connection:
-            self.connect()
-        self.connection.sendall(self.asked)
-        got = b""
-        while b"\r\n\r\n" not in got:
-            got += (more := self.connection.recv(512))
-            check(more, f"{self.what} that ends in its head")
-        head, _, begun = got.partition(b"\r\n\r\n")
-        check(head.startswith(b"HTTP/1.1 200 ") and length_of(head) == self.length, f"{self.what}: {head[:60]}")
-        left = self.length - len(begun)
-        while left:
-            count = self.connection.recv_into(self.room, left, socket.MSG_TRUNC | socket.MSG_WAITALL)
-            check(count, f"{self.what} that ends in its body")
-            left -= count
-        if closes(head):
-            self.close()
-
-    def get_until(self, end):
-        """The seconds that each GET takes, one after another, until this time."""
-        took = []
-        try:
-            while time.perf_counter() < end:
-                took.append(timed(self.get))
-        finally:
-            self.close()
-        return took
-
-
-def discard(server, load, length, seconds):
-    """The outcome of a load whose bodies are discarded, by a thread for each connection."""
-    clients = [Discarder(server, load, length) for _ in range(load.connections)]
-    begun = time.perf_counter()
-    with concurrent.futures.ThreadPoolExecutor(load.connections) as threads:
-        took = sorted(itertools.chain(*threads.map(lambda client: client.get_until(begun + seconds), clients)))
-    return Outcome(len(took), len(took) / (time.perf_counter() - begun), took[len(took) * 99 // 100])
+def discard(client, server, load, length, seconds):
+    """The outcome of a load whose bodies are discarded. Bodies of another length end the run."""
+    requests = [request_for(server.target(path), load.fields) for path in load.paths]
+    told = ask_all(client, server.port, requests, load.connections, seconds, THREADS)
+    check(told.bodies == length * told.replies, f"{server.title} sent bodies of {told.bodies:,} bytes for {told.replies:,} requests, {load.title}")
+    return Outcome(told.replies, told.replies / told.seconds, told.late)

@@ -156,6 +156,10 @@ class FolderServer(Server):
             os.utime(temporary, (modified, modified))
         os.replace(temporary, self.root / path[1:])
 
+    def put_all(self, files):
+        for path, content in files.items():
+            self.put(path, content)
+
 
 class Nginx(FolderServer):
     # How many processes serve, how many connections each has room for, which is the default, and more of its configuration: for all, and for the site.
@@ -221,7 +225,10 @@ class Host(Server):
 
     def put(self, path, content, modified=None):
         """Deploys one file, and leaves all others as they are. A deploy has no time of a file."""
-        self.deploy({path: content}, is_patch=True)
+        self.put_all({path: content})
+
+    def put_all(self, files):
+        self.deploy(files, is_patch=True)
 
 
 class Front:

@@ -30,7 +30,8 @@ class ServedHost(Host):
 
 class WorkerNginx(Nginx):
     workers, connections = WORKERS, ROOM
-    more = f"open_file_cache max=1000; keepalive_requests {REQUESTS}; keepalive_timeout {IDLE_SECONDS}s;"
+    # All files that are read fit in its cache of open files.
+    more = f"open_file_cache max=2000; keepalive_requests {REQUESTS}; keepalive_timeout {IDLE_SECONDS}s;"
     # A packet of loopback has 64 KiB. With tcp_nopush the rest of a range, a small packet, waits for an acknowledgement, which the client delays by 40 ms.
     more_of_site = f"location = {RANGED} {{ tcp_nopush off; }}"
 
