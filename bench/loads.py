@@ -36,18 +36,20 @@ class Load(typing.NamedTuple):
     wanted: float | None = None
     fields: tuple = ()
     is_discarded: bool = False
+    # How many system calls a request may take of filehost.
+    calls: float | None = None
 
 
 LOADS = (
     Load("4 KiB, 1 connection", (SMALL,), 1),
     Load("4 KiB, 16 connections", (SMALL,), 16, 1.5),
-    Load("4 KiB, 16 connections, discarded", (SMALL,), 16, 1.6, (), True),
+    Load("4 KiB, 16 connections, discarded", (SMALL,), 16, 1.6, (), True, 2.5),
     Load("4 KiB, 64 connections", (SMALL,), 64, 1.35),
     Load("1,000 files of 4 KiB, discarded", (*MANY,), 16, 1.4, (), True),
     Load("4 KiB, a connection a request", (SMALL,), 16, 0.93, (("Connection", "close"),)),
     Load("a range of 64 KiB, discarded", (RANGED,), 16, 1.2, ranges(300_000), True),
-    Load("four ranges of 64 KiB, discarded", (RANGED,), 16, 1.1, ranges(100_000, 350_000, 600_000, 850_000), True),
-    Load("1 MiB, discarded", (LARGE,), 16, 0.77, (), True),
+    Load("four ranges of 64 KiB, discarded", (RANGED,), 16, 1.1, ranges(100_000, 350_000, 600_000, 850_000), True, 7),
+    Load("1 MiB, discarded", (LARGE,), 16, 0.77, (), True, 7.5),
 )
 
 

@@ -4,31 +4,32 @@ import collections
 import contextlib
 import re
 
-from loads import FILES, SMALL
+from loads import FILES, checked_length, discard
 from servers import find
 from tables import check
 from worker_servers import ServedHost
 
-FEW, MANY = 100, 1_100
+SECONDS = 1
 
 
-def count_calls(program, folder, requests):
-    """How often the program makes each system call from its start to its end, if it answers so many GETs, one after another."""
+def count_calls(program, folder, work):
+    """How often the program makes each system call from its start to its end, and what came of this work with it meanwhile."""
     counted = folder.with_suffix(".calls")
     with contextlib.ExitStack() as stack:
         # The calls of all threads, in a table in this file.
         server = ServedHost(stack, "filehost", folder, program, [find("strace"), "-f", "-c", "-o", counted])
-        server.put(SMALL, FILES[SMALL])
-        for _ in range(requests):
-            status, _, body = server.get(SMALL)
-            check(status == 200 and body == FILES[SMALL], f"filehost under strace: {status}")
+        server.put_all(FILES)
+        outcome = work(server)
     # A row has the share of time, the seconds, those of a call, the calls, the errors if there are any, and the name.
     rows = re.findall(r"(?m)^ *[\d.]+ +[\d.]+ +\d+ +(\d+) +(?:\d+ +)?(\w+)$", counted.read_text())
-    return collections.Counter({name: int(calls) for calls, name in rows if name != "total"})
+    return collections.Counter({name: int(calls) for calls, name in rows if name != "total"}), outcome
 
 
-def calls_a_request(program, folder):
-    """What a GET of 4 KiB adds to these, of each call, the most frequent first. Each connection has as many requests as it takes."""
-    few, many = (count_calls(program, folder / f"traced-{requests}", requests) for requests in (FEW, MANY))
-    check(few and many, "strace counts no system calls")
-    return {name: (calls - few[name]) / (MANY - FEW) for name, calls in many.most_common()}
+def calls_a_request(program, folder, client, load):
+    """What a request of a load adds to these, of each call, the most frequent first. They have their share of the connections."""
+    idle, _ = count_calls(program, folder / "traced-idle", lambda _: None)
+    busy, outcome = count_calls(
+        program, folder / "traced-busy", lambda server: discard(client, server, load, checked_length(server, load), SECONDS)
+    )
+    check(idle and busy, "strace counts no system calls")
+    return {name: (calls - idle[name]) / outcome.count for name, calls in busy.most_common()}
