@@ -10,9 +10,10 @@ import os
 import resource
 import select
 import socket
+import subprocess
 import time
 
-from lib.client import LARGEST_FILE, PATIENCE, digest_of, request, sent
+from lib.client import HERE, LARGEST_FILE, PATIENCE, SECONDS, digest_of, request, sent
 from lib.crowds import GRACE, IDLE, WHOLE, Crowds, reset
 from lib.held_file import HeldFile
 from lib.launched import limited_to
@@ -186,6 +187,17 @@ class First(Ways):
         kept.sendall(GET[10:])
         self.assert_receives(kept, HELLO)
 
+    def test_a_client_that_was_answered_outlasts_those_that_sent_a_part_of_their_first_head(self):
+        """Though its worker answered it last, and they moved bytes since."""
+        self.begin("--workers", "1", second=WHOLE, **limited_to(FEW))
+        kept = self.plug(GET)
+        self.assert_receives(kept, HELLO)
+        time.sleep(0.1)
+        first = self.crowd(2 * FEW, GET[:10], pause=0.005)[0]
+        self.assertLess(seconds_until_closed(first, SOON), SOON)
+        kept.sendall(GET)
+        self.assert_receives(kept, HELLO)
+
     def test_of_silent_ones_the_one_that_sent_a_byte_outlasts_others_that_came_later(self):
         self.begin(second=WHOLE, **limited_to(FEW))
         places = self.count_places()
@@ -205,6 +217,26 @@ class First(Ways):
         self.held.open()
         self.begin("--store", str(folder), environment=self.held.environment, **how)
         self.held.close()
+
+    def test_a_client_that_another_worker_took_ends_nobody(self):
+        """It has the last descriptor. A worker that was told of it too, since it looked before it was taken, finds neither a descriptor nor a client."""
+        library = self.folder() / "slow_accept.so"
+        subprocess.run(["gcc", "-O1", "-shared", "-fPIC", "-o", library, HERE / "slow_accept.c", "-ldl"], check=True, timeout=SECONDS)
+        self.begin("--workers", "2", second=WHOLE, environment={"LD_PRELOAD": str(library), "ACCEPT_MILLISECONDS": "200"})
+        kept = self.crowd(6, GET)
+        for plug in kept:
+            self.assert_receives(plug, HELLO)
+        time.sleep(0.5)
+        self.let_have(2)
+        for _ in range(3):
+            # The worker that takes the first one looks again while the other one takes the second.
+            plugs = self.crowd(2, pause=0.1)
+            self.assert_in_time(lambda: self.sockets() == len(kept) + len(plugs), GRACE)
+            time.sleep(0.5)
+            self.assertEqual(select.select(kept + plugs, [], [], 0)[0], [])
+            for plug in plugs:
+                plug.close()
+            self.assert_in_time(lambda: self.sockets() == len(kept), GRACE)
 
     def test_a_request_that_comes_back_to_a_place_of_another_one_is_dropped(self):
         """Its client had to go for others, all of which were answered later than it asked."""

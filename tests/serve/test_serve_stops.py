@@ -193,6 +193,15 @@ class Stops(Launched):
                 self.assert_ends(SOON, self.ask_to_end(second))
                 del plugs
 
+    def test_both_signals_at_once_end_it_at_once(self):
+        """It sees both at its next look: that is twice."""
+        self.begin()
+        publish(self.client(), {"/large": LARGE})
+        plugs = [self.download(), self.plug(b"GET /s")]
+        self.started.send_signal(signal.SIGTERM)
+        self.assert_ends(SOON, self.ask_to_end(signal.SIGINT))
+        del plugs
+
     def test_what_never_moves_holds_it_for_ten_seconds(self):
         """They are real ones, and no deadlines: a second of those is short here."""
         self.begin(second=WHOLE // 10)

@@ -8,10 +8,12 @@ import contextlib
 import json
 import os
 import re
+import resource
 import select
+import subprocess
 import time
 
-from lib.client import LARGEST_FILE, PATIENCE, digest_of
+from lib.client import HERE, LARGEST_FILE, PATIENCE, SECONDS, digest_of
 from lib.crowds import WHOLE
 from lib.launched import Launched
 from lib.served import FILE, ask, publish
@@ -66,11 +68,15 @@ class Told(Launched):
             file.symlink_to(file)
         return files
 
-    def replace_journal(self):
+    def replace_journal(self, slot="journal"):
         """The journal gets a new file with its bytes. Then the next change fails, and those after it."""
-        file = self.store / "journal"
+        file = self.store / slot
         file.rename(self.store / "old")
         file.write_bytes((self.store / "old").read_bytes())
+        self.assert_fails()
+
+    def assert_fails(self):
+        """The next change fails, and those after it."""
         for wanted in (b'{"error":"Device"}', b'{"error":"Broken"}', b'{"error":"Broken"}'):
             self.assertEqual(ask(self.client(), "POST", "/api/v1/sites/two/undo", '{"change":2}'), (503, wanted))
 
@@ -94,6 +100,32 @@ class Told(Launched):
         self.begin_over(1)
         self.replace_journal()
         self.assertEqual(self.wait_for("journal")[0][2:], ("the journal was removed or replaced: another file has its name", 0))
+
+    def test_a_journal_that_is_replaced_in_its_second_slot(self):
+        """There a new store has it."""
+        self.store = self.folder().resolve() / "store"
+        self.store.mkdir()
+        self.begin("--store", str(self.store))
+        publish(self.client(), {"/a.txt": b"hello"}, "two")
+        self.replace_journal("journal.2")
+        self.assertEqual(self.wait_for("journal")[0][2:], ("the journal was removed or replaced: another file has its name", 0))
+
+    def test_a_journal_that_finds_no_room(self):
+        """A limit of file sizes acts as a full disk."""
+        self.begin_over(1)
+        size = (self.store / "journal").stat().st_size
+        resource.prlimit(self.started.pid, resource.RLIMIT_FSIZE, (size + 2, size + 2))
+        self.assert_fails()
+        text = self.wait_for("journal")[0][2]
+        self.assertEqual(text.partition(": ")[0], "a write of the journal failed")
+
+    def test_a_day_and_a_month_of_one_digit(self):
+        """A date has two of each. A library says that it is the fifth of January 2027."""
+        library = self.folder() / "fixed_date.so"
+        subprocess.run(["gcc", "-O1", "-shared", "-fPIC", "-o", library, HERE / "fixed_date.c", "-ldl"], check=True, timeout=SECONDS)
+        files = self.begin_over(1, environment={"LD_PRELOAD": str(library), "FIXED_DATE": str(calendar.timegm((2027, 1, 5, 6, 7, 8)))})
+        self.assertEqual(ask(self.client(), "GET", next(iter(files))), (503, b'{"error":"Device"}'))
+        self.assertEqual(self.wait_for("device")[0][0], "2027-01-05T06:07:08Z")
 
     def test_bodies_that_wait_for_room(self):
         self.begin()
