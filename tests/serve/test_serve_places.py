@@ -188,10 +188,12 @@ class First(Ways):
         self.assert_receives(kept, HELLO)
 
     def test_a_client_that_was_answered_outlasts_those_that_sent_a_part_of_their_first_head(self):
-        """Though its worker answered it last, and they moved bytes since."""
+        """Though its worker answered it last, and they moved bytes since. The first time a thread that may wait reads the file."""
         self.begin("--workers", "1", second=WHOLE, **limited_to(FEW))
-        kept = self.plug(GET)
-        self.assert_receives(kept, HELLO)
+        kept = self.plug()
+        for _ in range(2):
+            kept.sendall(GET)
+            self.assert_receives(kept, HELLO)
         time.sleep(0.1)
         first = self.crowd(2 * FEW, GET[:10], pause=0.005)[0]
         self.assertLess(seconds_until_closed(first, SOON), SOON)
