@@ -1,4 +1,4 @@
-"""In which writes replies go out: a small one is one write, and of a large file three pieces at a time go out in one.
+"""In which writes replies go out: a small one is one write, and of a large file four pieces at a time go out in one, but three with the head.
 
 The stream is a socket that keeps the bytes of each write together, so that what is received at once is what was written at once.
 """
@@ -14,7 +14,7 @@ from lib.wire import NO_FILE
 
 # So many bytes of small parts are gathered before they are written.
 ROOM = 8_192
-# One write takes so many pieces of a file, beside what was gathered.
+# One write takes so many pieces of a file beside what was gathered, and one more where nothing was.
 AT_ONCE = 3
 LARGEST_WRITE = 1 << 20
 BINARY = "application/octet-stream"
@@ -24,6 +24,8 @@ class Writes(Program):
     def writes_of(self, asked):
         """The bytes of each write with which these requests are answered, in order."""
         near, far = socket.socketpair(socket.AF_UNIX, socket.SOCK_SEQPACKET)
+        # The largest write of all is four pieces.
+        far.setsockopt(socket.SOL_SOCKET, socket.SO_SNDBUF, LARGEST_WRITE)
         with near, tempfile.TemporaryFile() as given:
             given.write(asked)
             given.seek(0)
@@ -68,12 +70,13 @@ class Writes(Program):
             with self.subTest(size=size):
                 self.assert_writes(self.talk_with(content), (request("GET", "/s/one/d"), [sent(content, kind=BINARY)]))
 
-    def test_of_a_large_file_have_three_pieces_each(self):
-        content = bytes(place % 251 for place in range(7 * PIECE + 77))
+    def test_of_a_large_file_have_four_pieces_each_but_for_the_first(self):
+        content = bytes(place % 251 for place in range(12 * PIECE + 77))
         reply = sent(content, kind=BINARY)
         pieces = pieces_of(content)
-        first, *others = [b"".join(pieces[at:at + AT_ONCE]) for at in range(0, len(pieces), AT_ONCE)]
-        self.assert_writes(self.talk_with(content), (request("GET", "/s/one/d"), [to_head(reply) + first, *others]),
+        first = to_head(reply) + b"".join(pieces[:AT_ONCE])
+        others = [b"".join(pieces[at:at + AT_ONCE + 1]) for at in range(AT_ONCE, len(pieces), AT_ONCE + 1)]
+        self.assert_writes(self.talk_with(content), (request("GET", "/s/one/d"), [first, *others]),
                            (request("HEAD", "/s/one/d"), [to_head(reply)]))
 
     def test_of_several_large_parts_have_each_stretch_with_what_lies_before_it(self):

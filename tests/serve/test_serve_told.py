@@ -68,12 +68,26 @@ class Told(Launched):
             file.symlink_to(file)
         return files
 
-    def replace_journal(self, slot="journal"):
-        """The journal gets a new file with its bytes. Then the next change fails, and those after it."""
-        file = self.store / slot
+    def begin_with(self, slot):
+        """Begins over a store whose journal is in this slot: a new store has it in the second. Answers the file."""
+        if slot == "journal":
+            self.begin_over(1)
+        else:
+            self.store = self.folder().resolve() / "store"
+            self.store.mkdir()
+            self.begin("--store", str(self.store))
+            publish(self.client(), {"/a.txt": b"hello"}, "two")
+        return self.store / slot
+
+    def replace(self, file):
+        """The journal gets a new file with its bytes."""
         file.rename(self.store / "old")
         file.write_bytes((self.store / "old").read_bytes())
-        self.assert_fails()
+
+    def leave_no_room(self, file):
+        """A limit of file sizes acts as a full disk."""
+        size = file.stat().st_size + 2
+        resource.prlimit(self.started.pid, resource.RLIMIT_FSIZE, (size, size))
 
     def assert_fails(self):
         """The next change fails, and those after it."""
@@ -88,36 +102,37 @@ class Told(Launched):
         self.assertLess(abs(time.time() - calendar.timegm(time.strptime(stamp, STAMP))), PATIENCE)
 
     def test_a_file_that_cannot_be_written(self):
-        self.begin_over(1)
-        piece = self.store / f"c-{digest_of(b'new')}"
-        piece.mkdir()
-        status, told = ask(self.client(), "POST", "/api/v1/sites/one/deploys", json.dumps({"files": {"/a.txt": digest_of(b"new")}}))
-        self.assertEqual(status, 200, told)
-        self.assertEqual(ask(self.client(), "PUT", "/api/v1/deploys/3/files/a.txt", b"new"), (503, b'{"error":"Device"}'))
-        self.assertIn(str(self.store), self.wait_for("device")[0][2])
+        content = bytes(10_000)
+        breaks = {
+            "its name is a folder's": lambda: (self.store / f"c-{digest_of(content)}").mkdir(),
+            "there is no room": lambda: resource.prlimit(self.started.pid, resource.RLIMIT_FSIZE, (5_000, 5_000)),
+        }
+        for case, break_it in breaks.items():
+            with self.subTest(case):
+                self.begin_over(1)
+                listing = json.dumps({"files": {"/a.txt": digest_of(content)}})
+                status, told = ask(self.client(), "POST", "/api/v1/sites/one/deploys", listing)
+                self.assertEqual(status, 200, told)
+                break_it()
+                target = "/api/v1/deploys/3/files/a.txt"
+                self.assertEqual(ask(self.client(), "PUT", target, content), (503, b'{"error":"Device"}'))
+                self.assertIn(str(self.store), self.wait_for("device")[0][2])
 
-    def test_a_journal_that_is_replaced(self):
-        self.begin_over(1)
-        self.replace_journal()
-        self.assertEqual(self.wait_for("journal")[0][2:], ("the journal was removed or replaced: another file has its name", 0))
-
-    def test_a_journal_that_is_replaced_in_its_second_slot(self):
-        """There a new store has it."""
-        self.store = self.folder().resolve() / "store"
-        self.store.mkdir()
-        self.begin("--store", str(self.store))
-        publish(self.client(), {"/a.txt": b"hello"}, "two")
-        self.replace_journal("journal.2")
-        self.assertEqual(self.wait_for("journal")[0][2:], ("the journal was removed or replaced: another file has its name", 0))
-
-    def test_a_journal_that_finds_no_room(self):
-        """A limit of file sizes acts as a full disk."""
-        self.begin_over(1)
-        size = (self.store / "journal").stat().st_size
-        resource.prlimit(self.started.pid, resource.RLIMIT_FSIZE, (size + 2, size + 2))
-        self.assert_fails()
-        text = self.wait_for("journal")[0][2]
-        self.assertEqual(text.partition(": ")[0], "a write of the journal failed")
+    def test_each_fault_of_a_journal_in_each_of_its_slots(self):
+        faults = (
+            (self.replace, "the journal was removed or replaced: another file has its name"),
+            (lambda file: file.rename(self.store / "old"), "the journal was removed or replaced: it isn't there"),
+            (lambda file: file.write_bytes(file.read_bytes() + b"more"), "another program made the journal shorter or longer"),
+            (lambda file: file.write_bytes(file.read_bytes()[:-1]), "another program made the journal shorter or longer"),
+            (self.leave_no_room, "a write of the journal failed"),
+        )
+        for slot in ("journal", "journal.2"):
+            for breaks, text in faults:
+                with self.subTest(slot=slot, text=text):
+                    breaks(self.begin_with(slot))
+                    self.assert_fails()
+                    (_, _, told, more), = self.wait_for("journal")
+                    self.assertEqual((told if told == text else told.partition(": ")[0], more), (text, 0))
 
     def test_a_day_and_a_month_of_one_digit(self):
         """A date has two of each. A library says that it is the fifth of January 2027."""
@@ -146,7 +161,8 @@ class Told(Launched):
             if failed % 90 == 0:
                 client = self.client()
             time.sleep(0.01)
-        self.replace_journal()
+        self.replace(self.store / "journal")
+        self.assert_fails()
         time.sleep(SOON)
         lines = self.read_lines()
         device = [(text.partition(": ")[0], more) for _, kind, text, more in lines if kind == "device"]

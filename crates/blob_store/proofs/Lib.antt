@@ -12,3 +12,4 @@ pub mod KeptOpen
 pub mod Honest
 mod Foldered
 mod FilePuts
+pub mod FailedPuts

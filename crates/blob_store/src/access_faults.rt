@@ -1,5 +1,6 @@
 //! Why a call of a shelf that threads share fails.
 ghost use Rattle.std.specs.Prelude.{◌≡◌, ◌↔◌};
+ghost use Rattle.blob_store.specs.Receipts.{told_fault};
 ghost use Rattle.blob_store.specs.declared.access_faults.AccessFault.TheVariants as access_fault;
 ghost use Rattle.blob_store.specs.declared.shelves.ShelfFault.TheVariants as shelf_fault;
 
@@ -23,6 +24,7 @@ impl AccessFault {
     pub(crate) fn of_shelf(fault: ShelfFault) -> AccessFault
         ensures device { (result ≡ access_fault.Device) ↔ (fault ≡ shelf_fault.Device) }
         ensures memory { (result ≡ access_fault.OutOfMemory) ↔ (fault ≡ shelf_fault.OutOfMemory) }
+        ensures told { told_fault result ≡ fault }
     {
         match fault {
             ShelfFault::Device => AccessFault::Device,
@@ -32,7 +34,7 @@ impl AccessFault {
 
     /// The fault as a shelf tells it: there the lack of a descriptor is a failure of the device.
     pub(crate) fn on_shelf(self) -> ShelfFault
-        ensures { (result ≡ shelf_fault.OutOfMemory) ↔ (self ≡ access_fault.OutOfMemory) }
+        ensures { result ≡ told_fault self }
     {
         match self {
             AccessFault::Device | AccessFault::NoDescriptor => ShelfFault::Device,

@@ -1,7 +1,9 @@
 //! The store: files whose pieces and tables are on a shelf.
 ghost use Rattle.std.specs.Prelude.{◌≡◌, ◌≢◌, ◌↔◌, ◌<◌, ◌≤◌, Err, IfErr, IfOk, MatchResult, None, OnErr, OnOk, Some, IsSome, length, option_map};
+ghost use Rattle.std.specs.Prelude.{map as map_list};
 ghost use Rattle.std.specs.FinMap as map;
-ghost use Rattle.host_names.specs.Digests.{digest_of};
+ghost use Rattle.std.specs.List.Sorted.{IsStrictlySortedBy};
+ghost use Rattle.host_names.specs.Digests.{digest_cmp, digest_of};
 ghost use Rattle.byte_view.specs.Contents.{AreDigested, with_file};
 ghost use Rattle.blob_store.specs.declared.shelves.ShelfName.TheVariants.{Part};
 ghost use Rattle.chunk_reads.specs.declared.faults.ReadFault.TheVariants as read_fault;
@@ -86,11 +88,12 @@ impl<S: Shelf> Blobs<S> {
         }
     }
 
-    /// A store over a shelf that may have files. It reads each wanted file whole, in turn, and knows those that the shelf gives whole. A
-    /// missing or damaged file isn't known; the first one that must be there is a fault. A digest that is wanted twice is read twice. A
-    /// failure of the device is a fault at any file, and so is a lack of memory. After a fault the store asks for nothing more, and the
-    /// shelf is handed back.
+    /// A store over a shelf that may have files. Each wanted digest is listed once, in the order of digests. It reads each of these files
+    /// whole, in this order, and knows those that the shelf gives whole. A missing or damaged file isn't known; the first one that must be
+    /// there is a fault. A failure of the device is a fault at any file, and so is a lack of memory. After a fault the store asks for
+    /// nothing more, and the shelf is handed back.
     pub fn open(alloc: Global, shelf: S, wanted: &[Wanted]) -> Result<Blobs<S>, NotOpened<S>>
+        requires rising { IsStrictlySortedBy digest_cmp (map_list (λ one. one.digest) wanted.now) }
         ensures opened { IfOk result (λ blobs. IsOpened S.did shelf wanted.now blobs.known blobs.shelf) }
         ensures fault { IfErr result (λ stop. IsOpenFault S.did shelf wanted.now stop.fault stop.shelf) }
         ensures device { IfErr result (λ stop. stop.fault ≡ open_fault.Device → S.failures shelf < S.failures stop.shelf) }

@@ -41,7 +41,7 @@ impl<'a, R: Files> DirShelf<'a, R> {
 }
 
 impl<R: Files> Shelf for DirShelf<'_, R> {
-    ghost use Rattle.std.specs.Prelude.{◌≡◌, ◌∷◌};
+    ghost use Rattle.std.specs.Prelude.{◌≡◌, ◌∷◌, ⊤};
     ghost use Rattle.std.specs.Path.{path_buf_bytes};
     ghost use Rattle.blob_store.specs.Folders.{calls_of, failures_in};
     ghost use Rattle.blob_store.specs.Receipts.{IsShown};
@@ -52,7 +52,7 @@ impl<R: Files> Shelf for DirShelf<'_, R> {
 
     ghost did = { λ old call new. (calls_of new.log ≡ call ∷ calls_of old.log)
         × IsShown (λ (written : Written) name bytes. (written.folder.numbers ≡ path_buf_bytes old.folder) × (written.name.value ≡ name) × (written.bytes.numbers ≡ bytes))
-        (λ (absent : Absent) name. (absent.folder.numbers ≡ path_buf_bytes old.folder) × (absent.name.value ≡ name)) call };
+        (λ (absent : Absent) name. (absent.folder.numbers ≡ path_buf_bytes old.folder) × (absent.name.value ≡ name)) (λ failing. ⊤) call };
 
     fn put(&mut self, name: ShelfName, bytes: &[u8]) -> Result<(), ShelfFault> {
         let (folder, temporary) = (self.folder.as_str(), self.temporary.as_str());

@@ -1,6 +1,6 @@
 //! What shows that a shelf did what it says.
-ghost use Rattle.std.specs.Prelude.{◌≡◌, ◌∷◌, [], IfOk, None};
-ghost use Rattle.blob_store.specs.Calls.{Got, Put};
+ghost use Rattle.std.specs.Prelude.{◌≡◌, ◌∷◌, [], IfErr, IfOk, None};
+ghost use Rattle.blob_store.specs.Calls.{GetFails, Got, Put, PutFails};
 ghost use Rattle.blob_store.specs.FileCalls.{IsPut, calls_in, path_of};
 ghost use Rattle.blob_store.specs.FileCalls as call;
 ghost use Rattle.blob_store.specs.Receipts.{IsAbsent};
@@ -151,7 +151,8 @@ pub(crate) fn put_on<S: Shelf>(
     name: ShelfName,
     bytes: &[u8],
 ) -> Result<ShelfPut<S>, ShelfFault>
-    ensures { IfOk result (λ put. (put.name.value ≡ name) × (put.bytes.numbers ≡ bytes.now)) }
+    ensures put { IfOk result (λ put. (put.name.value ≡ name) × (put.bytes.numbers ≡ bytes.now)) }
+    ensures failed { IfErr result (λ fault. S.did shelf.old (PutFails name bytes.now fault) shelf.new) }
 {
     let before = Snapshot::of(&*shelf);
     shelf.put(name, bytes)?;
@@ -168,7 +169,8 @@ pub(crate) fn get_of<S: Shelf>(
     shelf: &mut S,
     name: ShelfName,
 ) -> Result<Found<ShelfLacks<S>>, ShelfFault>
-    ensures { IfOk result (λ found. IsAbsent (λ lacks. lacks.name.value) name found) }
+    ensures absent { IfOk result (λ found. IsAbsent (λ lacks. lacks.name.value) name found) }
+    ensures failed { IfErr result (λ fault. S.did shelf.old (GetFails name fault) shelf.new) }
 {
     let before = Snapshot::of(&*shelf);
     match shelf.get(name)? {

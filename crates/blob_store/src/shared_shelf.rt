@@ -11,8 +11,8 @@ use std::marker::PhantomData;
 use std::sync::{Mutex, Wait};
 
 /// The shelf of files that threads share. Each call reaches them by a `ShelfAccess`, and calls of other threads come in between. So nothing is
-/// known of the shelf: contracts see the calls that were made by this value, and of a put or of a missing name also its receipt. The lack of a descriptor is a
-/// failure of its device.
+/// known of the shelf: contracts see the calls that were made by this value, of a put or of a missing name also its receipt, and of a failure what the
+/// `ShelfAccess` says of it. The lack of a descriptor is a failure of its device.
 #[derive(Drop)]
 pub struct SharedShelf<'a, R, S, A, U, N> {
     rt: &'a R,
@@ -52,7 +52,7 @@ impl<R: Wait, S, A: ShelfAccess<S, U, N>, U: PutReceipt + Drop, N: AbsenceReceip
     ghost failures = { λ shelf. failures_in (calls_of shelf.log) };
 
     ghost did = { λ old call new. (calls_of new.log ≡ call ∷ calls_of old.log)
-        × IsShown (IsFor U.put_name U.put_bytes) (λ receipt name. N.absent_name receipt ≡ name) call };
+        × IsShown (IsFor U.put_name U.put_bytes) (λ receipt name. N.absent_name receipt ≡ name) A.failed call };
 
     fn put(&mut self, name: ShelfName, bytes: &[u8]) -> Result<(), ShelfFault> {
         match self.access.put(self.rt, self.files, name, bytes) {

@@ -1,6 +1,7 @@
 //! How threads reach the files of a shelf that they share.
-ghost use Rattle.std.specs.Prelude.{◌≡◌, IfOk};
-ghost use Rattle.blob_store.specs.Receipts.{IsAbsent};
+ghost use Rattle.std.specs.Prelude.{◌≡◌, IfErr, IfOk, ⊤};
+ghost use Rattle.blob_store.specs.Calls.{Call, GetFails, PutFails};
+ghost use Rattle.blob_store.specs.Receipts.{IsAbsent, told_fault};
 ghost use Rattle.blob_store.specs.TemporaryNames.{temporary_path};
 
 use crate::access_faults::AccessFault;
@@ -22,6 +23,10 @@ const NO_DESCRIPTOR: &str = "no descriptor is left";
 /// Makes calls of a shelf that threads share. Who puts bytes, or finds nothing, hands over a receipt for that: `U` shows that bytes were
 /// put, and `N` that nothing was found. They are parameters, and no associated types, since bounds of those can't go to threads.
 pub trait ShelfAccess<S, U: PutReceipt + Drop, N: AbsenceReceipt + Drop> {
+    /// What a call that failed shows. Each way to a shelf chooses it. Whoever reaches a shelf by any way can show a failure only by making the
+    /// call.
+    ghost failed: { Call → Type 0 };
+
     /// Puts bytes under a name.
     fn put<W: Wait>(
         &self,
@@ -30,7 +35,8 @@ pub trait ShelfAccess<S, U: PutReceipt + Drop, N: AbsenceReceipt + Drop> {
         name: ShelfName,
         bytes: &[u8],
     ) -> Result<U, AccessFault>
-        ensures put { IfOk result (λ receipt. (U.put_name receipt ≡ name) × (U.put_bytes receipt ≡ bytes.now)) };
+        ensures put { IfOk result (λ receipt. (U.put_name receipt ≡ name) × (U.put_bytes receipt ≡ bytes.now)) }
+        ensures failed { IfErr result (λ why. failed (PutFails name bytes.now (told_fault why))) };
 
     /// What the shelf has under a name.
     fn get<W: Wait>(
@@ -39,7 +45,8 @@ pub trait ShelfAccess<S, U: PutReceipt + Drop, N: AbsenceReceipt + Drop> {
         files: &Mutex<Files<S>>,
         name: ShelfName,
     ) -> Result<Found<N>, AccessFault>
-        ensures absent { IfOk result (λ found. IsAbsent N.absent_name name found) };
+        ensures absent { IfOk result (λ found. IsAbsent N.absent_name name found) }
+        ensures failed { IfErr result (λ why. failed (GetFails name (told_fault why))) };
 }
 
 /// Locks the shelf for each call: so one call is made at a time.
@@ -47,6 +54,9 @@ pub trait ShelfAccess<S, U: PutReceipt + Drop, N: AbsenceReceipt + Drop> {
 pub struct LockedAccess;
 
 impl<S: Shelf> ShelfAccess<S, ShelfPut<S>, ShelfLacks<S>> for LockedAccess {
+    // A shelf made the call.
+    ghost failed = { λ call. (old : S) × (new : S) × S.did old call new };
+
     fn put<W: Wait>(
         &self,
         rt: &W,
@@ -132,6 +142,9 @@ impl<R: std::rt::Files> FolderAccess<'_, R> {
 }
 
 impl<S, R: std::rt::Files> ShelfAccess<S, Written, Absent> for FolderAccess<'_, R> {
+    // Nothing is said of a failure of a folder.
+    ghost failed = { λ call. ⊤ };
+
     fn put<W: Wait>(
         &self,
         rt: &W,

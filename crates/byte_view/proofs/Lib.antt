@@ -4,3 +4,5 @@ mod Followed
 mod Stretches
 pub mod Wholes
 pub mod NextPieces
+pub mod Occurrences
+pub mod PartsTaken

@@ -4,4 +4,5 @@ pub mod Contents
 pub mod Cuts
 pub mod Parts
 pub mod Holds
+pub mod Marks
 pub mod Views

@@ -1,10 +1,10 @@
 //! The parts of a body, which is never joined in memory.
-ghost use Rattle.std.specs.Prelude.{◌≡◌, ℕ, List, Option, length};
+ghost use Rattle.std.specs.Prelude.{◌≡◌, ◌<◌, ◌≤◌, [], ◌++◌, ℕ, List, Option, length};
 ghost use Rattle.std.specs.List.{concat};
 ghost use Rattle.std.specs.Iterator.{UpTo, YieldsFirstBy};
-ghost use Rattle.byte_view.specs.BodyParts.{text_of};
+ghost use Rattle.byte_view.specs.BodyParts.{text_if, text_of};
 
-use arrayvec::ArrayString;
+use arrayvec::{ArrayString, ArrayVec};
 use std::iter::Iterator;
 
 /// A part of a body: a short text of its own, such as a boundary's line, or bytes that it borrows. The room for its text is small, since parts are
@@ -50,4 +50,44 @@ pub trait BodyParts: Iterator {
     ghost can: { (parts : Self) → Self.can_next parts };
 
     ghost ends: { (parts : Self) → UpTo (Self.remaining parts) (length (texts parts)) };
+}
+
+/// How many bytes are few: so many are copied rather than sent apart.
+pub const FEW: usize = 256;
+
+/// The bytes of a part, or no bytes if there is no part. The call allocates nothing.
+pub fn bytes_if<P: BodyParts>(part: &Option<P::Item>) -> &[u8]
+    ensures { result.now ≡ text_if P.text part.now }
+{
+    match part {
+        Some(part) => P::bytes(part),
+        None => &[],
+    }
+}
+
+/// Takes the next part, if one is wanted and left.
+pub fn next_if<P: BodyParts>(parts: &mut P, is_wanted: bool) -> Option<P::Item>
+    ensures taken { concat (P.texts parts.old) ≡ text_if P.text result ++ concat (P.texts parts.new) }
+    ensures fewer { length (P.texts parts.new) ≤ length (P.texts parts.old) }
+{
+    if !is_wanted {
+        return None;
+    }
+    parts.next()
+}
+
+/// Takes all parts that are left and copies their bytes, if these are few; and else nothing. The call allocates nothing.
+pub fn rest_if_few<P: BodyParts<Item: Drop>>(parts: &mut P) -> ArrayVec<u8, FEW>
+    ensures taken { concat (P.texts parts.old) ≡ result.items ++ concat (P.texts parts.new) }
+    ensures all { 0 < length result.items → concat (P.texts parts.new) ≡ [] }
+    ensures fewer { length (P.texts parts.new) ≤ length (P.texts parts.old) }
+{
+    let mut rest = ArrayVec::new();
+    if parts.length() > FEW as u64 {
+        return rest;
+    }
+    'parts: while let Some(part) = parts.next() {
+        rest.try_extend_from_slice(P::bytes(&part)).unwrap();
+    }
+    rest
 }

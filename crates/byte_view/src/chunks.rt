@@ -1,8 +1,10 @@
 //! Chunks: bytes with their digest as their name.
-ghost use Rattle.std.specs.Prelude.{◌≡◌, ◌↔◌, IfErr, IfOk, IsOk};
+ghost use Rattle.std.specs.Prelude.{◌≡◌, ◌↔◌, IfErr, IfOk, IsOk, IsTrue};
 ghost use Rattle.host_names.specs.Digests.{digest_of};
+ghost use Rattle.byte_view.specs.Marks.{HasMark};
 ghost use Rattle.byte_view.specs.Views.{bytes_of};
 
+use crate::marks::{mark, occurs};
 use crate::views::View;
 use host_names::Digest;
 use std::marker::Model;
@@ -20,17 +22,19 @@ pub struct WrongName {
 pub struct Chunk {
     name: Digest,
     bytes: Vec<u8>,
+    has_mark: bool,
 }
 
 impl Model for Chunk {
-    ghost use Rattle.std.specs.Prelude.{◌≡◌, List, ℕ};
+    ghost use Rattle.std.specs.Prelude.{◌≡◌, ◌↔◌, IsTrue, List, ℕ};
     ghost use Rattle.host_names.specs.Digests.{digest_of};
+    ghost use Rattle.byte_view.specs.Marks.{HasMark};
 
     ghost Value = { List ℕ };
 
     ghost view = { λ chunk. chunk.bytes.items };
 
-    ghost invariant = { λ chunk. chunk.name ≡ digest_of chunk.bytes.items };
+    ghost invariant = { λ chunk. (chunk.name ≡ digest_of chunk.bytes.items) × (IsTrue chunk.has_mark ↔ HasMark chunk.bytes.items) };
 }
 
 impl Chunk {
@@ -43,7 +47,12 @@ impl Chunk {
         if Digest::of_bytes(bytes.as_slice()) != name {
             return Err(WrongName { bytes });
         }
-        Ok(Chunk { name, bytes })
+        let has_mark = occurs(mark(), bytes.as_slice());
+        Ok(Chunk {
+            name,
+            bytes,
+            has_mark,
+        })
     }
 
     /// The chunk's name.
@@ -51,6 +60,13 @@ impl Chunk {
         ensures { result ≡ digest_of self.now }
     {
         self.name
+    }
+
+    /// Whether the bytes have the mark.
+    pub fn has_mark(&self) -> bool
+        ensures { IsTrue result ↔ HasMark self.now }
+    {
+        self.has_mark
     }
 
     /// The chunk's bytes.

@@ -1,6 +1,7 @@
 //! Slices of chunks that together are a stretch of a file.
 ghost use Rattle.std.specs.Prelude.{◌≡◌, ◌<◌, ◌≤◌, All, length, map};
 ghost use Rattle.std.specs.Iterator.{YieldsFirstRef, at_most};
+ghost use Rattle.byte_view.specs.Marks.{TellsFirst};
 ghost use Rattle.byte_view.specs.Parts.{parts};
 
 use crate::blob_infos::PIECE_SIZE;
@@ -38,6 +39,16 @@ impl<'a> Pieces<'a> {
         ensures { result ≡ parts (map (λ chunk. chunk.value) chunks.now) from to }
     {
         Pieces { chunks, from, to }
+    }
+
+    /// Whether the chunk of the next slice has the mark. If it lacks it, so does the slice.
+    pub fn next_may_have_mark(&self) -> bool
+        ensures { TellsFirst self.now result }
+    {
+        match self.chunks.split_first() {
+            Some((chunk, _)) => chunk.has_mark(),
+            None => false,
+        }
     }
 }
 

@@ -1,8 +1,13 @@
 -- What a put leaves of a journal.
-use Rattle.std.proofs.Common.{◌≡◌, ◌⊎◌, ℕ, ◌+◌, ◌≤◌, Bool, IsTrue, false, true, refl, sym, subst, List, [], ◌∷◌, ◌++◌, length, ◌∙◌, ap, arith, length-append, All}
+use Rattle.std.proofs.Common.{◌≡◌, ◌⊎◌, ℕ, ◌+◌, ◌≤◌, Bool, IsTrue, false, true, refl, sym, subst, List, [], ◌∷◌, ◌++◌, length, ◌∙◌, ap, arith, length-append, All, Result, Err}
 use Rattle.std.proofs.lemmas.Bool.{false≢true}
 use Rattle.std.proofs.lemmas.List.Elements.{All-push}
 use Rattle.site_change.specs.declared.entries.Entry.{Entry}
+use Rattle.host_disk.specs.Calls.{DiskCall}
+use Rattle.record_file.specs.Failures.{MayFailPutting}
+use Rattle.record_file.specs.Frames.{framed}
+use Rattle.record_file.specs.declared.records.PutFault.{PutFault}
+use Rattle.record_file.specs.declared.records.PutFault.TheVariants.{Broken, Device}
 use Rattle.record_file.specs.declared.slots.Slots.{Slots}
 use Rattle.record_file.specs.Pairs.{ArePaired, BothLeave, IsOldOrder, Order, first_of, order_of, second_of}
 use Rattle.change_journal.specs.Held.{IsSound}
@@ -25,6 +30,20 @@ record_length entry bytes spelled =
       omega (arith, size, length-append (entry_text entry) (0 ∷ [])),
       omega (arith, size, length-append (entry_text entry) (0 ∷ []), entry_length entry spelled.writable),
     )
+
+-- which calls of a put may fail
+pub put_fails : {D : Type 0} (seen : D → List ℕ) (may_fail : D → DiskCall → Type 0) (front : List ℕ) (entry : Entry) (bytes : List ℕ) → IsRecordOf entry bytes
+    → MayFailPutting seen may_fail front (length bytes) → MayFailPutting seen may_fail front (length (framed (entry_text entry)) + 1)
+put_fails seen may_fail front entry bytes spelled fails =
+    subst (MayFailPutting seen may_fail front) (ap length spelled.is ∙ length-append (framed (entry_text entry)) (0 ∷ [])) fails
+
+abbrev not_put : PutFault → Result (Unit {0}) PutFault
+not_put fault = Err fault
+
+-- the device fails only of a journal that isn't broken
+pub was_whole : (broken : Bool) (fault : PutFault) → (IsTrue broken → not_put fault ≡ not_put Broken) → fault ≡ Device → broken ≡ false
+was_whole false fault refused is = refl
+was_whole true fault refused is = let told = refused refl in absurd (cc (told, is))
 
 module _ {D : Type 0} (moment : D → ℕ) (left_since : D → ℕ → List ℕ → Type 0) (may_leave : D → List ℕ → Type 0) where
   -- what is settled is stored

@@ -1,14 +1,15 @@
 //! The journal of a history.
-ghost use Rattle.std.specs.Prelude.{◌≡◌, ◌⊎◌, ◌<◌, ◌≤◌, ◌++◌, ◌∷◌, [], ℕ, All, Err, IfErr, IfOk, IsErrOf, IsTrue, List, MatchResult, OnErr, OnOk, false, true};
+ghost use Rattle.std.specs.Prelude.{◌≡◌, ◌⊎◌, ◌<◌, ◌≤◌, ◌+◌, ◌++◌, ◌∷◌, [], ℕ, All, Err, IfErr, IfOk, IsErrOf, IsTrue, List, MatchResult, OnErr, OnOk, false, length, true};
 ghost use Rattle.change_log.specs.Logs;
 ghost use Rattle.change_log.specs.Logs.{last_number, with_entry};
 ghost use Rattle.site_change.specs.declared.entries.Entry as entries;
 ghost use Rattle.record_file.specs.declared.faults.OpenFault.TheVariants.{BadHeader, BadRecord, Device, OutOfMemory};
 ghost use Rattle.record_file.specs.declared.records.PutFault.TheVariants as put_fault;
-ghost use Rattle.record_file.specs.Failures.{MayFailReading};
+ghost use Rattle.record_file.specs.Failures.{MayFailPutting, MayFailReading};
+ghost use Rattle.record_file.specs.Frames.{framed};
 ghost use Rattle.record_file.specs.Pairs.{AreForeign, AreRefused, BothOnlyRead, FoundBoth, Order, ReadsBad, ReadsRecord};
 ghost use Rattle.record_file.specs.Slots.{HasFront, old_header};
-ghost use Rattle.entry_texts.specs.Spells.{IsWritable};
+ghost use Rattle.entry_texts.specs.Spells.{IsWritable, entry_text};
 ghost use Rattle.change_journal.specs.Texts.{AllStored, HoldsEntries, IsOne, IsText, LeavesNext, MayHoldMore, MayHoldNext, texts};
 ghost use Rattle.record_file.specs.Walks.{IsOnlyRead};
 ghost use Rattle.change_journal.specs.Faults.{BreaksEither, StopsEither};
@@ -153,6 +154,8 @@ impl<D: Disk> Journal<D> {
             → D.left_since self.new.first (D.moment self.old.first) a
             → D.left_since self.new.second (D.moment self.old.second) b
             → HoldsEntries self.old.entries a b ⊎ HoldsEntries (with_entry self.old.entries prepared) a b }
+        ensures reason { IsTrue D.is_modelled → IsErrOf result put_fault.Device → MayFailPutting D.seen D.may_fail
+            (opened (texts self.old.entries)) (length (framed (entry_text prepared)) + 1) }
         ensures cause { MatchResult result (λ _. (D.faults self.new.first ≡ D.faults self.old.first)
             × (D.faults self.new.second ≡ D.faults self.old.second)) (λ fault. BreaksEither fault
             (D.faults self.old.first) (D.faults self.old.second) (D.faults self.new.first) (D.faults self.new.second)) }

@@ -4,9 +4,9 @@ ghost use Rattle.host_names.specs.declared.names.SiteName.{SiteName};
 ghost use Rattle.change_log.specs.Logs.{Log, empty_log, last_number, with_entry};
 ghost use Rattle.site_change.specs.declared.entries.Entry.{Entry};
 ghost use Rattle.site_change.specs.declared.entries.Entry.TheVariants.{Undo};
-ghost use Rattle.host_disk.specs.Calls.{ReadAt};
+ghost use Rattle.host_disk.specs.Calls.{ReadAt, WriteAt};
 ghost use Rattle.host_disk.specs.Crashes.{Torn};
-ghost use Rattle.record_file.specs.Failures.{MayFailReading, ReadsWithin};
+ghost use Rattle.record_file.specs.Failures.{MayFailPutting, MayFailReading, PutsBehind, ReadsWithin};
 ghost use Rattle.record_file.specs.Frames.{framed};
 ghost use Rattle.record_file.specs.Openings.{IsExactly};
 ghost use Rattle.record_file.specs.Pairs.{AreForeign, FoundBoth, MayFollow, MayLead, Order, ReadsBad, ReadsRecord};
@@ -107,6 +107,9 @@ pub fn wrong_answers_are_refused<D: Disk>()
     ensures no_gate { ¬ (ReadsRecord [] []) }
     ensures past_the_end { (file : List ℕ) → ¬ (ReadsWithin file (ReadAt 0 (length file + 1))) }
     ensures never_fails { (file : List ℕ) → ¬ (MayFailReading D.seen (λ disk call. ⊥) file) }
+    ensures gap { (front file : List ℕ) (n : ℕ) → ¬ (PutsBehind front n file (WriteAt (length file + 1) n)) }
+    ensures over_the_front { (front file : List ℕ) (n : ℕ) → ¬ (PutsBehind (0 ∷ front) n file (WriteAt 0 n)) }
+    ensures never_fails_putting { (front : List ℕ) (n : ℕ) → ¬ (MayFailPutting D.seen (λ disk call. ⊥) front n) }
     ensures bad_record { (first second : List ℕ) → ¬ (ReadsBad (λ header before. IsText header) 0 first second) }
     ensures kept { (log : Log) (n : ℕ) (first second : List ℕ) → HoldsEntries log first second → last_number log ≤ 1000000
         → ¬ (ReadsBad (λ header before. IsText header) n first second) }

@@ -1,5 +1,5 @@
 //! The source of a node that has a shelf.
-ghost use Rattle.std.specs.Prelude.{◌≡◌, true};
+ghost use Rattle.std.specs.Prelude.{◌≡◌, ⊤};
 ghost use Rattle.chunk_group.specs.Stores.{LoadedOfFiles};
 
 use crate::sources::Source;
@@ -24,7 +24,7 @@ impl<S: Shelf> FileSource<S> {
 }
 
 impl<S: Shelf> Source for FileSource<S> {
-    ghost allows = { λ _ _. true };
+    ghost allows = { λ _ _. ⊤ };
 
     ghost loaded = { LoadedOfFiles S.did S.failures };
 

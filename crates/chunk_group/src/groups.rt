@@ -1,8 +1,8 @@
 //! The group of a node that threads share.
-ghost use Rattle.std.specs.Prelude.{◌≡◌, ◌<◌, ◌≤◌, true, IfErr, IfOk, IfSome, MatchResult, length};
+ghost use Rattle.std.specs.Prelude.{◌≡◌, ◌<◌, ◌≤◌, IfErr, IfOk, IfSome, MatchResult, length};
 ghost use Rattle.host_names.specs.Digests.{digest_of};
 ghost use Rattle.chunk_reads.specs.declared.faults.ReadFault.TheVariants.{OutOfMemory};
-ghost use Rattle.chunk_group.specs.Faults.{may_answer};
+ghost use Rattle.chunk_group.specs.Faults.{MayAnswer};
 ghost use Rattle.chunk_group.specs.Holding.{MayNotHold};
 
 use crate::caches::Caches;
@@ -99,7 +99,7 @@ impl<H: RingHash + Copy + Drop, S: Source + Copy, L: PeerLink + Copy, C: Coin + 
     /// look finds a chunk that was kept, and doesn't load it again.
     fn fill<R: Wait>(&self, rt: &R, link: &mut L, key: &Digest) -> Outcome
         ensures named { IfOk result (λ chunk. digest_of chunk.value ≡ key.now) }
-        ensures fault { IfErr result (λ fault. may_answer S.allows key.now fault ≡ true) }
+        ensures fault { IfErr result (λ fault. MayAnswer S.allows key.now fault) }
     {
         if let Some(chunk) = self.look(rt, key)? {
             return Ok(chunk);
@@ -117,7 +117,7 @@ impl<H: RingHash + Copy + Drop, S: Source + Copy, L: PeerLink + Copy, C: Coin + 
     /// The same for a leader that asks no peer.
     fn fill_alone<R: Wait>(&self, rt: &R, key: &Digest) -> Outcome
         ensures named { IfOk result (λ chunk. digest_of chunk.value ≡ key.now) }
-        ensures fault { IfErr result (λ fault. may_answer S.allows key.now fault ≡ true) }
+        ensures fault { IfErr result (λ fault. MayAnswer S.allows key.now fault) }
     {
         if let Some(chunk) = self.look(rt, key)? {
             return Ok(chunk);
@@ -131,7 +131,7 @@ impl<H: RingHash + Copy + Drop, S: Source + Copy, L: PeerLink + Copy, C: Coin + 
     /// it, or else from the source. No lock is held during a load.
     pub fn get<R: Wait>(&self, rt: &R, key: &Digest) -> Result<Arc<Chunk>, ReadFault>
         ensures named { IfOk result (λ chunk. digest_of chunk.value ≡ key.now) }
-        ensures fault { IfErr result (λ fault. may_answer S.allows key.now fault ≡ true) }
+        ensures fault { IfErr result (λ fault. MayAnswer S.allows key.now fault) }
     {
         let mut link = self.link();
         self.get_by(rt, &mut link, key)
@@ -140,7 +140,7 @@ impl<H: RingHash + Copy + Drop, S: Source + Copy, L: PeerLink + Copy, C: Coin + 
     /// The same by this link, if a peer is asked.
     fn get_by<R: Wait>(&self, rt: &R, link: &mut L, key: &Digest) -> Result<Arc<Chunk>, ReadFault>
         ensures named { IfOk result (λ chunk. digest_of chunk.value ≡ key.now) }
-        ensures fault { IfErr result (λ fault. may_answer S.allows key.now fault ≡ true) }
+        ensures fault { IfErr result (λ fault. MayAnswer S.allows key.now fault) }
     {
         if let Some(chunk) = self.look(rt, key)? {
             return Ok(chunk);
@@ -157,7 +157,7 @@ impl<H: RingHash + Copy + Drop, S: Source + Copy, L: PeerLink + Copy, C: Coin + 
     /// The same, but a leader asks the source alone.
     fn get_alone<R: Wait>(&self, rt: &R, key: &Digest) -> Result<Arc<Chunk>, ReadFault>
         ensures named { IfOk result (λ chunk. digest_of chunk.value ≡ key.now) }
-        ensures fault { IfErr result (λ fault. may_answer S.allows key.now fault ≡ true) }
+        ensures fault { IfErr result (λ fault. MayAnswer S.allows key.now fault) }
     {
         if let Some(chunk) = self.look(rt, key)? {
             return Ok(chunk);
@@ -259,7 +259,7 @@ impl<
     L: PeerLink + Copy,
     C: Coin + Drop,
 > ChunkReader for Reading<'_, R, H, S, L, C> {
-    ghost reads = { λ _ name answer _. MatchResult answer (λ chunk. digest_of chunk ≡ name) (λ fault. may_answer S.allows name fault ≡ true) };
+    ghost reads = { λ _ name answer _. MatchResult answer (λ chunk. digest_of chunk ≡ name) (λ fault. MayAnswer S.allows name fault) };
 
     fn read(&mut self, name: &Digest) -> Result<Arc<Chunk>, ReadFault> {
         self.group.get_by(self.rt, &mut self.link, name)

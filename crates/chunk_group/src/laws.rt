@@ -1,5 +1,5 @@
 //! Laws of nodes. Each function does nothing: its contract is the law.
-ghost use Rattle.std.specs.Prelude.{◌≡◌, ◌≢◌, ◌<◌, ℕ, List, [], ◌∷◌, Option, None, Result, Some, Ok, Err, false};
+ghost use Rattle.std.specs.Prelude.{◌≡◌, ◌≢◌, ◌<◌, ℕ, List, [], ◌∷◌, Option, None, Result, Some, Ok, Err};
 ghost use Rattle.host_names.specs.Digests.{digest_of};
 ghost use Rattle.host_names.specs.declared.digests.Digest.{Digest};
 ghost use Rattle.chunk_reads.specs.declared.faults.ReadFault.{ReadFault};
@@ -41,7 +41,7 @@ pub fn wrong_answers_are_refused<H: RingHash, S: Source, L: PeerLink, C: Coin, T
         → held key old.caches.cache ≡ Some chunk → Fills S.loaded L.fetched C.drew (Owns H.hashed ring) me old key answer new → new.suppliers ≡ old.suppliers }
     ensures device { (old new : FileSource T) (key : Digest) → IsGivenFault (LoadedOfFiles T.did T.failures) old key Device new
         → T.failures old.files.shelf < T.failures new.files.shelf }
-    ensures may_not { (file : List ℕ) (first last : ℕ) → ¬ (MayNotHold (λ key fault. false) file first last Missing) }
+    ensures may_not { (file : List ℕ) (first last : ℕ) → ¬ (MayNotHold (λ key fault. ⊥) file first last Missing) }
     ensures other { (ring : Peers H) (key : Digest) (me : ℕ) → ¬ (IsOther (Owns H.hashed ring key) me me) }
     ensures cached { (limit : ℕ) (chunk : List ℕ) → ¬ (IsCached (empty limit) chunk) }
     ensures all { ¬ (AllCached (λ chunk. ⊥) (record { limit = 100; main = [] ∷ []; hot = [] })) }

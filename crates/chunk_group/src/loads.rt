@@ -2,7 +2,7 @@
 ghost use Rattle.std.specs.Prelude.{◌≡◌, true, Err, IfErr, IfOk, MatchOption, Ok, Some};
 ghost use Rattle.host_names.specs.Digests.{digest_of};
 ghost use Rattle.chunk_group.specs.declared.loads.Giver.TheVariants as giver;
-ghost use Rattle.chunk_group.specs.Faults.{may_answer};
+ghost use Rattle.chunk_group.specs.Faults.{MayAnswer};
 ghost use Rattle.chunk_group.specs.Loads.{IsAsked, IsGivenFault, IsNoChunk};
 ghost use Rattle.chunk_group.specs.Owners.{Owns};
 
@@ -47,7 +47,7 @@ fn from_peer<L: PeerLink>(link: &mut L, peer: usize, key: &Digest) -> Option<Chu
 pub(crate) fn from_source<S: Source>(source: &mut S, key: &Digest) -> Result<Chunk, ReadFault>
     ensures named { IfOk result (λ chunk. (digest_of chunk ≡ key.now) × S.loaded source.old key.now (Ok chunk) source.new) }
     ensures fault { IfErr result (λ fault. IsGivenFault S.loaded source.old key.now fault source.new) }
-    ensures allowed { IfErr result (λ fault. may_answer S.allows key.now fault ≡ true) }
+    ensures allowed { IfErr result (λ fault. MayAnswer S.allows key.now fault) }
 {
     let chunk = source.load(key)?;
     if chunk.name() != *key {
@@ -66,7 +66,7 @@ impl<S: Source, L: PeerLink> Suppliers<S, L> {
         ensures given { IfOk result (λ given. IsAsked S.loaded L.fetched (Owns H.hashed place.now.ring key.now) place.now.me given.giver self.old key.now (Ok given.chunk) self.new) }
         ensures named { IfOk result (λ given. digest_of given.chunk ≡ key.now) }
         ensures fault { IfErr result (λ fault. IsAsked S.loaded L.fetched (Owns H.hashed place.now.ring key.now) place.now.me giver.Source self.old key.now (Err fault) self.new) }
-        ensures allowed { IfErr result (λ fault. may_answer S.allows key.now fault ≡ true) }
+        ensures allowed { IfErr result (λ fault. MayAnswer S.allows key.now fault) }
     {
         if let Some(peer) = place.other_owner(key) {
             if let Some(chunk) = from_peer(&mut self.link, peer, key) {

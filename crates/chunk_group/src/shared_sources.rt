@@ -1,5 +1,6 @@
 //! The source of nodes that share a shelf.
-ghost use Rattle.std.specs.Prelude.{◌≡◌, true, ⊤};
+ghost use Rattle.std.specs.Prelude.{◌≡◌, ⊤};
+ghost use Rattle.chunk_group.specs.Faults.{IsBlamedFor};
 ghost use Rattle.chunk_group.specs.Stores.{LoadedOfShared};
 
 use crate::sources::Source;
@@ -12,7 +13,7 @@ use std::marker::PhantomData;
 use std::sync::{Mutex, Wait};
 
 /// Gives the pieces of the files on a shelf that nodes share. Each piece is checked once, after it was read and under no lock, so that no node waits
-/// for another one's hash. It may answer any fault for any key.
+/// for another one's hash. It may say of any key that the piece is missing or damaged, and blames the device only if that failed at the call.
 pub struct SharedSource<'a, R, S, A, U, N> {
     rt: &'a R,
     files: &'a Mutex<Files<S>>,
@@ -54,7 +55,7 @@ impl<R, S, A, U, N> Clone for SharedSource<'_, R, S, A, U, N> {
 
 impl<R: Wait, S, A: ShelfAccess<S, U, N>, U: PutReceipt + Drop, N: AbsenceReceipt + Drop> Source
     for SharedSource<'_, R, S, A, U, N> {
-    ghost allows = { λ _ _. true };
+    ghost allows = { IsBlamedFor A.failed };
 
     ghost loaded = { LoadedOfShared };
 

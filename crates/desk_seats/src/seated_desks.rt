@@ -18,9 +18,9 @@ use http_wire::Head;
 use left_right::Absorb;
 use seen_lists::ListName;
 use shared_desk::Desk;
-use shared_house::{DeskAccess, Note, Taken};
+use shared_house::{DeskAccess, LogFront, Taken};
 use site_change::{Command, Entry};
-use site_desk::{DeskError, DeskName, Notice, Seat, Tie, UploadError};
+use site_desk::{DeskError, DeskName, Notice, Seat, SeenFiles, UploadError};
 use site_state::Listing;
 use std::alloc::{AllocError, Global};
 use std::marker::PhantomData;
@@ -126,7 +126,7 @@ impl<
     /// The first step of an upload, at the seat: the digest that is listed.
     fn judge(
         &self,
-        seen: &mut Note<J>,
+        seen: &mut LogFront<J>,
         site: &SiteName,
         deploy: u64,
         path: &FilePath,
@@ -143,8 +143,8 @@ impl<
     /// The last step of an upload, at the seat: publishes the deploy if it is ready, over these files and maybe more.
     fn publish_if_ready(
         &self,
-        seen: &mut Note<J>,
-        known: &mut Tie<K>,
+        seen: &mut LogFront<J>,
+        known: &mut SeenFiles<K>,
         site: &SiteName,
         deploy: u64,
     ) -> Result<Option<Notice<J>>, UploadError<Notice<J>>>
@@ -170,8 +170,8 @@ impl<
     A: ShelfAccess<S, U, N>,
     U: PutReceipt + Drop,
     N: AbsenceReceipt + Drop,
-> DeskAccess<J> for SeatedDesk<'_, J, K, D, S, T, R, W, A, U, N> {
-    ghost did = { IsAsked D.Disk (last_number J.found) };
+> DeskAccess<J, K> for SeatedDesk<'_, J, K, D, S, T, R, W, A, U, N> {
+    ghost did = { IsAsked D.Disk A.failed (last_number J.found) };
 
     fn asked_for(&self, alloc: Global, head: &Head, body: &[u8]) -> Result<Ask, Refusal> {
         if body.len() <= PARSED_TOGETHER {
@@ -183,7 +183,7 @@ impl<
 
     fn commit(
         &self,
-        seen: &mut Note<J>,
+        seen: &mut LogFront<J>,
         command: Command,
     ) -> Result<Notice<J>, DeskError<Notice<J>>> {
         let mut seat = self.seat.lock(self.rt);
@@ -192,7 +192,7 @@ impl<
 
     fn undo(
         &self,
-        seen: &mut Note<J>,
+        seen: &mut LogFront<J>,
         site: &SiteName,
         change: u64,
     ) -> Result<Notice<J>, DeskError<Notice<J>>> {
@@ -202,7 +202,8 @@ impl<
 
     fn upload(
         &self,
-        seen: &mut Note<J>,
+        seen: &mut LogFront<J>,
+        known: &mut SeenFiles<K>,
         site: &SiteName,
         deploy: u64,
         path: &FilePath,
@@ -216,22 +217,27 @@ impl<
         if listed != digest {
             return Err(UploadError::WrongDigest);
         }
-        let mut known = match self.desk.store(self.rt, self.access, digest, bytes) {
-            Ok(known) => known,
+        match self.desk.store(self.rt, self.access, digest, bytes) {
+            Ok(stored) => known.learn(&SeenFiles::of(stored)),
             Err(fault) => return Err(UploadError::NotStored(fault)),
-        };
-        match self.publish_if_ready(seen, &mut known, site, deploy) {
+        }
+        match self.publish_if_ready(seen, known, site, deploy) {
             Ok(published) => Ok(Taken { digest, published }),
             Err(why) => Err(why),
         }
     }
 
-    fn missing(&self, alloc: Global, files: &Listing) -> Result<Items<Digest>, AllocError> {
-        let (digests, _known) = self.desk.missing(self.rt, alloc, files)?;
+    fn missing(
+        &self,
+        alloc: Global,
+        known: &mut SeenFiles<K>,
+        files: &Listing,
+    ) -> Result<Items<Digest>, AllocError> {
+        let digests = self.desk.missing(self.rt, alloc, known, files)?;
         Ok(Items::from(digests))
     }
 
-    fn shown(&self, seen: &mut Note<J>) -> Result<Notice<J>, AllocError> {
+    fn shown(&self, seen: &mut LogFront<J>) -> Result<Notice<J>, AllocError> {
         self.desk.shown(self.rt, seen)
     }
 }

@@ -7,7 +7,7 @@ use crate::serving::{Kept, Worker};
 use crate::steps::{NotBegun, Steps};
 use connection_rules::{Stage, Standing};
 use operator_notices::Kind as About;
-use socket_sets::{ClientSocket, Listener, NotAccepted, SocketSet, Waits};
+use socket_sets::{ClientSocket, Listener, NotAccepted, SocketSet, Waits, accept_one};
 use std::sync::Wait;
 use std::thread;
 use std::time::{Clock, Duration};
@@ -34,7 +34,7 @@ impl<
             self.deafen();
             return;
         }
-        match self.node.listener.accept_one() {
+        match accept_one(&self.node.listener) {
             Ok(socket) => self.place(socket),
             Err(failed) => {
                 self.node.shares.lock(self.rt).let_out();

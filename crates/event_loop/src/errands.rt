@@ -1,4 +1,6 @@
 //! What the workers of a node hand over to threads that may wait.
+ghost use Rattle.std.specs.Prelude.{◌≡◌, [], ◌∷◌, ◌++◌, IfNone, IfSome, OnErr, OnOk};
+
 use std::alloc::{AllocError, Global};
 use std::collections::VecDeque;
 use std::sync::{Condvar, Mutex, Wait};
@@ -22,6 +24,27 @@ struct Queue<C> {
     is_over: bool,
 }
 
+impl<C: Drop> Queue<C> {
+    /// Adds an errand behind those that wait. If there is neither room nor memory, it is dropped.
+    fn add(&mut self, errand: Errand<C>) -> Result<(), AllocError>
+        ensures added { OnOk result (self.new.waiting.items ≡ self.old.waiting.items ++ errand ∷ []) }
+        ensures same { OnErr result (self.new.waiting.items ≡ self.old.waiting.items) }
+    {
+        match self.waiting.push_back(errand) {
+            Ok(()) => Ok(()),
+            Err(_) => Err(AllocError),
+        }
+    }
+
+    /// Takes the one that has waited longest, if one waits.
+    fn next(&mut self) -> Option<Errand<C>>
+        ensures first { IfSome result (λ errand. self.old.waiting.items ≡ errand ∷ self.new.waiting.items) }
+        ensures none { IfNone result (self.old.waiting.items ≡ []) }
+    {
+        self.waiting.pop_front()
+    }
+}
+
 /// The errands of a node, which its threads for them share.
 #[derive(Drop)]
 pub(crate) struct Errands<C> {
@@ -43,8 +66,7 @@ impl<C: Drop> Errands<C> {
 
     /// Hands an errand over. If there is neither room nor memory, it is dropped, and its connection with it.
     pub(crate) fn give<R: Wait>(&self, rt: &R, errand: Errand<C>) -> Result<(), AllocError> {
-        let given = self.queue.lock(rt).waiting.push_back(errand);
-        given.map_err(|_| AllocError)?;
+        self.queue.lock(rt).add(errand)?;
         self.is_new.notify_one();
         Ok(())
     }
@@ -53,7 +75,7 @@ impl<C: Drop> Errands<C> {
     pub(crate) fn take<R: Wait>(&self, rt: &R) -> Option<Errand<C>> {
         let mut queue = self.queue.lock(rt);
         for _ in rt.forever() {
-            if let Some(errand) = queue.waiting.pop_front() {
+            if let Some(errand) = queue.next() {
                 return Some(errand);
             }
             if queue.is_over {

@@ -1,5 +1,5 @@
 -- A step of a connection: it goes through some phases on a metered stream.
-use Rattle.std.proofs.Common.{◌≡◌, ◌⊎◌, inl, inr, ℕ, ◌≤◌, List, refl, ◌∙◌, subst, arith}
+use Rattle.std.proofs.Common.{◌≡◌, ◌⊎◌, inl, inr, ℕ, ◌<◌, ◌≤◌, List, refl, ◌∙◌, subst, arith}
 use Rattle.http_wire.specs.Gathering.{Gathered}
 use Rattle.http_wire.specs.Timing.{Event, Ran, Steps}
 use Rattle.host_connection.specs.declared.meters.Metered.{Metered}
@@ -11,14 +11,19 @@ use Rattle.host_connection.specs.declared.steps.Progress.TheVariants as progress
 use Rattle.host_connection.specs.declared.steps.Wants.{Wants}
 use Rattle.host_connection.specs.Advancing.{Falls, Goes}
 use Rattle.host_connection.specs.Carrying.{Carries, IsHeld, Leads, MayWait}
+use Rattle.host_connection.specs.Metering.{moved}
 use Rattle.host_connection.specs.Serving.{Answering}
 use Rattle.host_connection.specs.Timing.{Connects, IsCaughtUp}
-use Rattle.host_connection.proofs.Metering.{IsMetered, IsStream, Sees, from_meter, left_after, streams, to_meter}
+use Rattle.host_connection.proofs.Metering.{IsMetered, IsStream, Sees, from_meter, reads_after, streams, to_meter, writes_after}
 use Rattle.host_connection.proofs.Simulated.{carries_back, ran_back}
+
+-- the step has read or written all that it may
+abbrev pub IsUsedUp : {S : Type 0} → Metered S → Type 0
+IsUsedUp m = (m.reads ≡ 0) ⊎ (m.writes ≡ 0)
 
 -- where a metered stream has to wait
 abbrev pub MeteredWaits : {S : Type 0} → (waits : S → Type 0) → Metered S → Type 0
-MeteredWaits waits m = (m.left ≡ 0) ⊎ waits m.stream
+MeteredWaits waits m = IsUsedUp m ⊎ waits m.stream
 
 -- ---- to the metered stream and back
 
@@ -26,7 +31,7 @@ pub to_metered : {S H : Type 0} (answers : Answering H) (saw : S → Event → S
     → Carries answers saw (Unit {0}) start first now host c
     → (begin : Metered S) × (begin.stream ≡ start) × Carries answers (Sees saw) (MayWait (MeteredWaits waits)) begin first begun host c
 to_metered answers saw waits start now begun first host c same carries =
-    carries_back answers saw (Sees saw) IsMetered (to_meter saw) (Unit {0}) (MayWait (MeteredWaits waits)) (λ leaves. (record { stream = now; left = 0 }, inl refl)) start now begun first host c carries same
+    carries_back answers saw (Sees saw) IsMetered (to_meter saw) (Unit {0}) (MayWait (MeteredWaits waits)) (λ leaves. (record { stream = now; reads = 0; writes = 0 }, inl (inl refl))) start now begun first host c carries same
 
 pub from_metered : {S H : Type 0} (answers : Answering H) (saw : S → Event → S → Type 0) (waits : S → Type 0) (start : S) (begin new : Metered S) (first host : H) (c : Connection) → begin.stream ≡ start
     → Carries answers (Sees saw) (MayWait (MeteredWaits waits)) begin first new host c → Carries answers saw (Unit {0}) start first new.stream host c
@@ -42,11 +47,11 @@ ended {S} answers saw start begin new first claim same ran =
     subst (λ (s : S). Ran saw (IsCaughtUp answers first) s new.stream claim) (back.1 ∙ same) back.2
 
 -- the stream itself has to wait
-waits_itself : {S : Type 0} (waits : S → Type 0) (new : Metered S) → (new.left ≡ 0 → ⊥) → MeteredWaits waits new → waits new.stream
+waits_itself : {S : Type 0} (waits : S → Type 0) (new : Metered S) → ¬ (IsUsedUp new) → MeteredWaits waits new → waits new.stream
 waits_itself waits new left (inl none) = absurd (left none)
 waits_itself waits new left (inr waiting) = waiting
 
-held : {S : Type 0} (waits : S → Type 0) (new : Metered S) (out : Gathered) (p : Phase) → (new.left ≡ 0 → ⊥) → IsHeld (MeteredWaits waits new) out p → IsHeld (waits new.stream) out p
+held : {S : Type 0} (waits : S → Type 0) (new : Metered S) (out : Gathered) (p : Phase) → ¬ (IsUsedUp new) → IsHeld (MeteredWaits waits new) out p → IsHeld (waits new.stream) out p
 held waits new out phase.Head left is = waits_itself waits new left is
 held waits new out (phase.Invite i) left is = waits_itself waits new left is
 held waits new out (phase.Body b) left is = waits_itself waits new left is
@@ -57,7 +62,7 @@ held waits new out (phase.Ended result) left is = waits_itself waits new left is
 -- ---- what a step leads to
 
 -- it waits, and the step has not moved all that it may
-pub step_waits : {S H : Type 0} (answers : Answering H) (saw : S → Event → S → Type 0) (waits : S → Type 0) (start : S) (begin new : Metered S) (first host : H) (c : Connection) (w : Wants) → begin.stream ≡ start → (new.left ≡ 0 → ⊥)
+pub step_waits : {S H : Type 0} (answers : Answering H) (saw : S → Event → S → Type 0) (waits : S → Type 0) (start : S) (begin new : Metered S) (first host : H) (c : Connection) (w : Wants) → begin.stream ≡ start → ¬ (IsUsedUp new)
     → Leads answers (Sees saw) (MayWait (MeteredWaits waits)) (MeteredWaits waits) begin first new host c (progress.Waits w)
     → Leads answers saw (Unit {0}) waits start first new.stream host c (progress.Waits w)
 step_waits answers saw waits start begin new first host c w same left leads =
@@ -75,21 +80,28 @@ step_else answers saw waits start begin new first host c (progress.Ended result)
 
 -- ---- what a step moves
 
-pub step_goes : {S : Type 0} (saw : S → Event → S → Type 0) (old : S) (begun new : Metered S) (events : List Event) (p : Progress) (old_left new_left : ℕ) → begun.stream ≡ old → begun.left ≡ 262144
-    → Steps (Sees saw) begun events new → Falls p old_left new_left → Goes saw old new.stream p old_left new_left
-step_goes {S} saw old begun new events p old_left new_left same left steps falls = record {
+pub step_goes : {S : Type 0} (saw : S → Event → S → Type 0) (old : S) (begun new : Metered S) (events : List Event) (p : Progress) (old_left new_left : ℕ) → begun.stream ≡ old
+    → begun.reads ≡ 262144 → begun.writes ≡ 1179648 → Steps (Sees saw) begun events new → Falls p old_left new_left → Goes saw old new.stream p old_left new_left
+step_goes {S} saw old begun new events p old_left new_left same reads writes steps falls = record {
   events = events;
   steps = subst (λ (s : S). Steps saw s events new.stream) same (streams saw begun new events steps);
-  few = omega (arith, left_after saw begun new events steps, left);
+  few_read = omega (arith, reads_after saw begun new events steps, reads);
+  few_written = omega (arith, writes_after saw begun new events steps, writes);
   further = inl falls;
 }
 
--- the step has moved all that it may
-pub step_full : {S : Type 0} (saw : S → Event → S → Type 0) (old : S) (begun new : Metered S) (events : List Event) (p : Progress) (old_left new_left : ℕ) → begun.stream ≡ old → begun.left ≡ 262144
-    → Steps (Sees saw) begun events new → new.left ≡ 0 → new_left ≤ old_left → Goes saw old new.stream p old_left new_left
-step_full {S} saw old begun new events p old_left new_left same left steps none falls = record {
+-- the step has read or written all that it may, so it moved some bytes
+some_moved : {S : Type 0} (saw : S → Event → S → Type 0) (begun new : Metered S) (events : List Event) → begun.reads ≡ 262144 → begun.writes ≡ 1179648
+    → Steps (Sees saw) begun events new → IsUsedUp new → 0 < moved events
+some_moved saw begun new events reads writes steps (inl none) = omega (arith, reads_after saw begun new events steps, reads, none)
+some_moved saw begun new events reads writes steps (inr none) = omega (arith, writes_after saw begun new events steps, writes, none)
+
+pub step_full : {S : Type 0} (saw : S → Event → S → Type 0) (old : S) (begun new : Metered S) (events : List Event) (p : Progress) (old_left new_left : ℕ) → begun.stream ≡ old
+    → begun.reads ≡ 262144 → begun.writes ≡ 1179648 → Steps (Sees saw) begun events new → IsUsedUp new → new_left ≤ old_left → Goes saw old new.stream p old_left new_left
+step_full {S} saw old begun new events p old_left new_left same reads writes steps none falls = record {
   events = events;
   steps = subst (λ (s : S). Steps saw s events new.stream) same (streams saw begun new events steps);
-  few = omega (arith, left_after saw begun new events steps, left);
-  further = inr (omega (arith, left_after saw begun new events steps, left, none), falls);
+  few_read = omega (arith, reads_after saw begun new events steps, reads);
+  few_written = omega (arith, writes_after saw begun new events steps, writes);
+  further = inr (some_moved saw begun new events reads writes steps none, falls);
 }

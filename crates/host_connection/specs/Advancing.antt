@@ -1,6 +1,6 @@
 -- How far a step of a connection comes.
-use Rattle.std.specs.Prelude.{◌≡◌, ◌⊎◌, ℕ, ◌+◌, ◌*◌, ◌-◌, ◌<◌, ◌≤◌, List, Err}
-use Rattle.http_wire.specs.Timing.{Event, Steps}
+use Rattle.std.specs.Prelude.{◌≡◌, ◌⊎◌, ℕ, ◌+◌, ◌*◌, ◌-◌, ◌<◌, ◌≤◌, List, length, Err}
+use Rattle.http_wire.specs.Timing.{Event, Steps, all_got, all_put}
 use Rattle.host_connection.specs.declared.connections.ConnectionFault.TheVariants as fault
 use Rattle.host_connection.specs.declared.phases.Phase.{Phase}
 use Rattle.host_connection.specs.declared.phases.Phase.TheVariants as phase
@@ -30,11 +30,12 @@ Falls (progress.Body size) old_left new_left = new_left < old_left
 Falls progress.Postponed old_left new_left = new_left ≤ old_left
 Falls (progress.Ended result) old_left new_left = new_left ≤ old_left
 
--- What a step did on its stream: it moved 262,144 bytes at most. Where it may go on at once, fewer phases are left, or it moved some bytes.
+-- What a step did on its stream: it read 262,144 bytes at most, and wrote 1,179,648 at most. Where it may go on at once, fewer phases are left, or it moved some bytes.
 pub record Goes {S : Type 0} (saw : S → Event → S → Type 0) (old new : S) (result : Progress) (old_left new_left : ℕ) : Type 0 where
   pub events : List Event
   pub steps : Steps saw old events new
-  pub few : moved events ≤ 262144
+  pub few_read : length (all_got events) ≤ 262144
+  pub few_written : length (all_put events) ≤ 1179648
   pub further : Falls result old_left new_left ⊎ ((0 < moved events) × (new_left ≤ old_left))
 
 -- ---- bodies

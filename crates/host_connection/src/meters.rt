@@ -1,19 +1,23 @@
-//! A stream of which a step moves so many bytes at most.
+//! A stream of which a step reads and writes so many bytes at most.
 ghost use Rattle.std.specs.Prelude.{◌≡◌, ◌⊎◌, ◌↔◌, IsTrue};
 ghost use Rattle.host_connection.specs.Metering.{Meters};
 
 use byte_slices::Slices;
 use http_wire::{Duplex, Halt, ReadFailed, WriteFailed};
 
-/// How many bytes a step reads and writes at most, together.
-const STEP: usize = 262_144;
+/// How many bytes a step reads at most: as many as are kept for a body that takes one.
+const READS: usize = 262_144;
 
-/// A stream that a connection reads and writes. Each step moves 262,144 bytes of it at most.
+/// How many bytes a step writes at most: a piece of 1 MiB with its head, so that most replies are out after one.
+const WRITES: usize = 1_179_648;
+
+/// A stream that a connection reads and writes. Each step reads 262,144 bytes of it at most, and writes 1,179,648 at most.
 #[derive(Drop)]
 pub struct Metered<D: Duplex> {
     stream: D,
-    /// How many bytes the step may still move.
-    left: usize,
+    /// How many bytes the step may still read, and how many it may still write.
+    reads: usize,
+    writes: usize,
 }
 
 impl<D: Duplex> Metered<D> {
@@ -21,7 +25,11 @@ impl<D: Duplex> Metered<D> {
     pub fn new(stream: D) -> Metered<D>
         ensures { result.stream ≡ stream }
     {
-        Metered { stream, left: STEP }
+        Metered {
+            stream,
+            reads: READS,
+            writes: WRITES,
+        }
     }
 
     /// The stream.
@@ -34,16 +42,18 @@ impl<D: Duplex> Metered<D> {
     // Begins a step.
     pub(crate) fn begin(&mut self)
         ensures stream { self.new.stream ≡ self.old.stream }
-        ensures left { self.new.left ≡ 262144 }
+        ensures reads { self.new.reads ≡ 262144 }
+        ensures writes { self.new.writes ≡ 1179648 }
     {
-        self.left = STEP;
+        self.reads = READS;
+        self.writes = WRITES;
     }
 
-    // Whether the step has moved all that it may.
+    // Whether the step has read or written all that it may.
     pub(crate) fn is_used_up(&self) -> bool
-        ensures { IsTrue result ↔ (self.now.left ≡ 0) }
+        ensures { IsTrue result ↔ ((self.now.reads ≡ 0) ⊎ (self.now.writes ≡ 0)) }
     {
-        self.left == 0
+        self.reads == 0 || self.writes == 0
     }
 }
 
@@ -56,37 +66,37 @@ impl<D: Duplex> Duplex for Metered<D> {
 
     ghost write_fails = { D.write_fails };
 
-    // The step has moved all that it may, or the stream has to wait.
-    ghost waits = { λ m. (m.left ≡ 0) ⊎ D.waits m.stream };
+    // The step has read or written all that it may, or the stream has to wait.
+    ghost waits = { λ m. ((m.reads ≡ 0) ⊎ (m.writes ≡ 0)) ⊎ D.waits m.stream };
 
-    ghost saw = { λ old event new. Meters D.saw old.stream old.left event new.stream new.left };
+    ghost saw = { λ old event new. Meters D.saw old.stream old.reads old.writes event new.stream new.reads new.writes };
 
     fn read_some(&mut self, buf: &mut [u8]) -> Result<usize, Halt<ReadFailed>> {
-        if self.left == 0 {
+        if self.reads == 0 {
             return Err(Halt::WouldWait);
         }
-        let room = buf.len().min(self.left);
+        let room = buf.len().min(self.reads);
         let count = self.stream.read_some(&mut buf[..room])?;
-        self.left -= count;
+        self.reads -= count;
         Ok(count)
     }
 
     fn write_some(&mut self, bytes: &[u8]) -> Result<usize, Halt<WriteFailed>> {
-        if self.left == 0 {
+        if self.writes == 0 {
             return Err(Halt::WouldWait);
         }
-        let most = bytes.len().min(self.left);
+        let most = bytes.len().min(self.writes);
         let count = self.stream.write_some(&bytes[..most])?;
-        self.left -= count;
+        self.writes -= count;
         Ok(count)
     }
 
     fn write_slices(&mut self, slices: &Slices<'_>) -> Result<usize, Halt<WriteFailed>> {
-        if self.left == 0 {
+        if self.writes == 0 {
             return Err(Halt::WouldWait);
         }
-        let count = self.stream.write_slices(&slices.up_to(self.left))?;
-        self.left -= count;
+        let count = self.stream.write_slices(&slices.up_to(self.writes))?;
+        self.writes -= count;
         Ok(count)
     }
 

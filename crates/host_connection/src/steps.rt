@@ -68,7 +68,8 @@ impl Connection {
     }
 
     /// Goes on where the last step left off: reads what is there, answers a request, and writes what the stream takes. A step begins one answer at
-    /// most, and moves 262,144 bytes at most. Then it may go on at once: but only finitely often without a byte that is read or written.
+    /// most, reads 262,144 bytes at most and writes 1,179,648 at most. Then it may go on at once: but only finitely often without a byte that is read or
+    /// written.
     ///
     /// Before it reads a body that isn't empty, it tells once how long that is. It waits only where the stream has to, to read while no whole head
     /// or body has come, and to write while some of a reply is left. Where the service leaves a request for later, the step ends so, with the request

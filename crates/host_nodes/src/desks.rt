@@ -6,6 +6,7 @@ use crate::overseeing::Overseen;
 use crate::ports::Ports;
 use crate::posts::{Places, Posts};
 use crate::runtimes::Serving;
+use crate::showing::HostHouses;
 use crate::task_lists::Task;
 use crate::tasks::{HostShared, Means, work_on};
 use blob_store::{AbsenceReceipt, PutReceipt, Shelf, ShelfAccess};
@@ -89,7 +90,7 @@ fn serve_places<
     alloc: Global,
     desk: &'a Desk<J, K, D, S, T, R>,
     groups: &'a [HostGroup<'_, '_, R, S, Q, U, N>],
-    places: &'a Places<J>,
+    places: &'a Places<J, K, HostHouses<J, D, S, Q, U, N>>,
     tasks: Vec<Task<J>>,
     around: &Surroundings<'a, R, P, Q, E>,
     lines: &mut O,
@@ -126,7 +127,7 @@ fn serve_group<
     alloc: Global,
     desk: &Desk<J, K, D, S, T, R>,
     views: &[View],
-    places: &Places<J>,
+    places: &Places<J, K, HostHouses<J, D, S, Q, U, N>>,
     tasks: Vec<Task<J>>,
     around: &Surroundings<'_, R, P, Q, E>,
     lines: &mut O,
@@ -161,7 +162,7 @@ pub(crate) fn serve_desk<
     rt: &R,
     alloc: Global,
     desk: &Desk<J, K, D, S, T, R>,
-    posts: Posts<J>,
+    posts: Posts<J, K, HostHouses<J, D, S, Q, U, N>>,
     around: &Surroundings<'_, R, P, Q, E>,
     lines: &mut O,
 ) -> Result<(), Failure> {

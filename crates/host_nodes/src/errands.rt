@@ -1,7 +1,8 @@
 //! What the threads do that may wait.
 use crate::groups::HostGroup;
-use crate::guests::{GuestSteps, NotedBox};
+use crate::guests::{GuestSteps, HostBox};
 use crate::nodes::step_away;
+use crate::showing::HostHouses;
 use blob_store::{AbsenceReceipt, PutReceipt, ShelfAccess};
 use byte_view::BlobInfo;
 use connection_rules::Stage;
@@ -25,6 +26,8 @@ use worker_connections::{Holding, Next, Step};
 /// The steps of one request.
 type AwaySteps<'a, 'g, 'h, J, K, D, S, T, R, Q, U, N> = GuestSteps<
     J,
+    K,
+    HostHouses<J, D, S, Q, U, N>,
     SeatedDesk<'a, J, K, D, S, T, R, R, Q, U, N>,
     GroupFiles<'a, R, HostGroup<'g, 'h, R, S, Q, U, N>, TcpLink<'h, R>>,
     Patient,
@@ -80,9 +83,7 @@ fn steps_of<
     );
     let files = GroupFiles::new(rt, errands.group);
     let house = SharedHouse::new(sight, desk, files).ok()?;
-    Some(GuestSteps {
-        guest: Guest::new(house, Patient),
-    })
+    Some(GuestSteps::new(Guest::new(house, Patient)))
 }
 
 impl<
@@ -96,9 +97,9 @@ impl<
     U: PutReceipt + Drop,
     N: AbsenceReceipt + Drop,
 > SlowSteps for GuestErrands<'_, J, K, D, S, T, R, Q, HostGroup<'_, '_, R, S, Q, U, N>> {
-    type Connection = NotedBox<J>;
+    type Connection = HostBox<J, K, D, S, Q, U, N>;
 
-    fn go_on(&mut self, alloc: Global, noted: &mut NotedBox<J>) -> Step {
+    fn go_on(&mut self, alloc: Global, noted: &mut HostBox<J, K, D, S, Q, U, N>) -> Step {
         let Some(sight) = noted.sight.take() else {
             return lost();
         };

@@ -1,87 +1,176 @@
 //! What the workers answer over.
 ghost use Rattle.std.specs.Prelude.{◌≡◌};
+ghost use Rattle.host_connection.specs.Carrying.{IsFresh};
 ghost use Rattle.host_connection.specs.declared.steps.Progress.TheVariants as came;
 ghost use Rattle.host_connection.specs.declared.steps.Wants.TheVariants as wants;
 ghost use Rattle.worker_connections.specs.declared.steps.Interest.TheVariants as interest;
 ghost use Rattle.worker_connections.specs.declared.steps.Next.TheVariants as next;
+ghost use Rattle.shared_house.specs.Desks.{shows};
+ghost use Rattle.host_nodes.specs.Carried.{IsCarried};
 
 use crate::inputs::Input;
+use crate::showing::{AsksOver, HostHouses, Houses};
+use byte_view::BlobInfo;
 use connection_rules::{HeldReply, Stage};
 use event_loop::{NotBegun, SlowSteps, Steps};
 use host_connection::{Connection, Metered, Progress, Stage as Phase, Wants};
 use host_names::Digest;
-use shared_house::{DeskAccess, DeskVisitor, FileAccess, Guest, Haste, Note, Patient, Quick};
+use seen_lists::ListName;
+use shared_house::{DeskVisitor, FileAccess, Guest, Haste, Note, Patient, Quick};
 use site_desk::DeskName;
 use std::alloc::{AllocError, Global};
+use std::marker::PhantomData;
 use std::net::TcpStream;
-use tcp_socket::Socket;
+use tcp_socket::{Socket, Trail};
 use worker_connections::{Holding, Interest, Next, Step};
 
-/// A connection, the note of what it saw last, and what is known of its input. While a request waits to be answered by a thread that may wait, what a worker
-/// saw for it is here.
+/// A connection, the note of what it saw last, what went over its socket, and what is known of its input. While a request waits to be answered by a thread
+/// that may wait, what a worker saw for it is here.
+///
+/// The note stays the connection's own: over all that went over the socket, the connection and the note are what the steps of workers made of them, each
+/// with the note that the one before left.
 #[derive(Drop)]
-pub(crate) struct Noted<J: DeskName> {
-    pub(crate) connection: Connection,
-    pub(crate) note: Note<J>,
-    pub(crate) input: Input,
+pub(crate) struct Noted<J: DeskName, K: ListName<BlobInfo>, M: Houses> {
+    connection: Connection,
+    note: Note<J, K>,
+    trail: Trail,
+    input: Input,
     pub(crate) sight: Option<DeskVisitor<J>>,
+    houses: PhantomData<M>,
+    ghost carried: { ∥ IsCarried (shows M.did M.fails) trail note connection ∥₁ },
 }
 
 /// It is in a box, so a worker that takes a step and threads that hand it on move its address alone.
-pub(crate) type NotedBox<J> = Box<Noted<J>>;
+pub(crate) type NotedBox<J, K, M> = Box<Noted<J, K, M>>;
+
+/// That of a host over such disks, whose shelf is reached this way.
+pub(crate) type HostBox<J, K, D, S, Q, U, N> = NotedBox<J, K, HostHouses<J, D, S, Q, U, N>>;
 
 /// Puts it into a box.
-fn boxed<J: DeskName>(alloc: Global, noted: Noted<J>) -> Result<NotedBox<J>, AllocError> {
+fn boxed<J: DeskName, K: ListName<BlobInfo>, M: Houses>(
+    alloc: Global,
+    noted: Noted<J, K, M>,
+) -> Result<NotedBox<J, K, M>, AllocError> {
     Ok(Box::new(alloc, noted)?)
 }
 
-/// A guest, as what goes on with the connections of a worker.
+impl<J: DeskName, K: ListName<BlobInfo>, M: Houses> Noted<J, K, M> {
+    /// A connection that has read nothing, with a note of its own.
+    fn new(connection: Connection, note: Note<J, K>) -> Noted<J, K, M>
+        requires { IsFresh connection }
+    {
+        Noted {
+            connection,
+            note,
+            trail: Trail::new(),
+            input: Input::new(),
+            sight: None,
+            houses: PhantomData,
+        }
+    }
+
+    /// Its socket, lent for a step, over what went over it so far. A step that needs no socket has none.
+    fn socket<'s>(&self, stream: Option<&'s TcpStream>) -> Socket<'s>
+        ensures { result ≡ self.now.trail }
+    {
+        match stream {
+            Some(stream) => Socket::new(stream, &self.trail),
+            None => Socket::away(&self.trail),
+        }
+    }
+
+    /// Goes on with the connection over its socket, by a guest.
+    fn go_on<A: AsksOver<J, K, M, G>, G: FileAccess, H: Haste>(
+        &mut self,
+        alloc: Global,
+        guest: &mut Guest<J, K, A, G, H>,
+        duplex: &mut Metered<Socket<'_>>,
+    ) -> Progress
+        requires { duplex.old.stream ≡ self.old.trail }
+    {
+        let progress = guest.go_on(&mut self.connection, &mut self.note, alloc, duplex);
+        self.trail = duplex.stream().trail();
+        progress
+    }
+}
+
+/// A guest, as what goes on with the connections of a worker, in such houses.
 #[derive(Drop)]
-pub(crate) struct GuestSteps<J: DeskName, D: Drop, G: Drop, H: Drop> {
-    pub(crate) guest: Guest<J, D, G, H>,
+pub(crate) struct GuestSteps<J: DeskName, K: ListName<BlobInfo>, M, A: Drop, G: Drop, H: Drop> {
+    guest: Guest<J, K, A, G, H>,
+    houses: PhantomData<M>,
+}
+
+impl<J: DeskName, K: ListName<BlobInfo>, M, A: Drop, G: Drop, H: Drop> GuestSteps<
+    J,
+    K,
+    M,
+    A,
+    G,
+    H,
+> {
+    /// The steps of a guest.
+    pub(crate) fn new(guest: Guest<J, K, A, G, H>) -> GuestSteps<J, K, M, A, G, H> {
+        GuestSteps {
+            guest,
+            houses: PhantomData,
+        }
+    }
 }
 
 /// A worker waits for nothing but its set.
-impl<J: DeskName, D: DeskAccess<J> + Drop, G: FileAccess + Drop> Steps
-    for GuestSteps<J, D, G, Quick> {
+impl<
+    J: DeskName,
+    K: ListName<BlobInfo>,
+    M: Houses,
+    A: AsksOver<J, K, M, G> + Drop,
+    G: FileAccess + Drop,
+> Steps for GuestSteps<J, K, M, A, G, Quick> {
     type Socket = TcpStream;
 
-    type Connection = NotedBox<J>;
+    type Connection = NotedBox<J, K, M>;
 
-    fn begin(&mut self, alloc: Global, _socket: &TcpStream) -> Result<NotedBox<J>, NotBegun> {
-        let noted = Noted {
-            connection: Connection::new(alloc)?,
-            note: self.guest.note(),
-            input: Input::new(),
-            sight: None,
-        };
-        Ok(boxed(alloc, noted)?)
+    fn begin(&mut self, alloc: Global, _socket: &TcpStream) -> Result<NotedBox<J, K, M>, NotBegun> {
+        let connection = Connection::new(alloc)?;
+        Ok(boxed(alloc, Noted::new(connection, self.guest.note()))?)
     }
 
-    fn go_on(&mut self, alloc: Global, noted: &mut NotedBox<J>, socket: &TcpStream) -> Step {
-        step_of(&mut self.guest, alloc, noted, Socket::new(socket))
+    fn go_on(&mut self, alloc: Global, noted: &mut NotedBox<J, K, M>, socket: &TcpStream) -> Step {
+        step_of(&mut self.guest, alloc, noted, Some(socket))
     }
 }
 
 /// The steps of a thread that may wait need no socket.
-impl<J: DeskName, D: DeskAccess<J> + Drop, G: FileAccess + Drop> SlowSteps
-    for GuestSteps<J, D, G, Patient> {
-    type Connection = NotedBox<J>;
+impl<
+    J: DeskName,
+    K: ListName<BlobInfo>,
+    M: Houses,
+    A: AsksOver<J, K, M, G> + Drop,
+    G: FileAccess + Drop,
+> SlowSteps for GuestSteps<J, K, M, A, G, Patient> {
+    type Connection = NotedBox<J, K, M>;
 
-    fn go_on(&mut self, alloc: Global, noted: &mut NotedBox<J>) -> Step {
-        step_of(&mut self.guest, alloc, noted, Socket::away())
+    fn go_on(&mut self, alloc: Global, noted: &mut NotedBox<J, K, M>) -> Step {
+        step_of(&mut self.guest, alloc, noted, None)
     }
 }
 
 /// A step of a connection over a socket, by a guest.
-fn step_of<J: DeskName, D: DeskAccess<J> + Drop, G: FileAccess + Drop, H: Haste + Drop>(
-    guest: &mut Guest<J, D, G, H>,
+fn step_of<
+    J: DeskName,
+    K: ListName<BlobInfo>,
+    M: Houses,
+    A: AsksOver<J, K, M, G>,
+    G: FileAccess,
+    H: Haste,
+>(
+    guest: &mut Guest<J, K, A, G, H>,
     alloc: Global,
-    noted: &mut Noted<J>,
-    socket: Socket<'_>,
+    noted: &mut Noted<J, K, M>,
+    stream: Option<&TcpStream>,
 ) -> Step {
-    let mut duplex = Metered::new(socket);
-    let progress = guest.go_on(&mut noted.connection, &mut noted.note, alloc, &mut duplex);
+    let mut duplex = Metered::new(noted.socket(stream));
+    let progress = noted.go_on(alloc, guest, &mut duplex);
     let phase = noted.connection.stage();
     let socket = duplex.stream();
     let answered = guest.answered();

@@ -16,6 +16,7 @@ mod ports;
 mod posts;
 mod runtimes;
 mod serving;
+mod showing;
 mod task_lists;
 mod tasks;
 

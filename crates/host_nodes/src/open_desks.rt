@@ -10,6 +10,7 @@ use crate::nodes::PEER_THREADS;
 use crate::ports::bind_all;
 use crate::posts::{Plan, Posts, Staff, posts_of};
 use crate::runtimes::Serving;
+use crate::showing::Houses;
 use blob_store::{AbsenceReceipt, PutReceipt, Shelf, ShelfAccess};
 use byte_view::BlobInfo;
 use command_line::ServeOptions;
@@ -116,13 +117,18 @@ fn plan_of<P: Process>(
 }
 
 /// Binds the ports that the words ask for, and gives these who work at a desk their posts there.
-fn posts_at<J: DeskName, R: Net<Listener = TcpListener, Stream = TcpStream>>(
+fn posts_at<
+    J: DeskName,
+    K: ListName<BlobInfo>,
+    M: Houses,
+    R: Net<Listener = TcpListener, Stream = TcpStream>,
+>(
     rt: &R,
     alloc: Global,
     options: &ServeOptions,
     staff: Staff<J>,
     plan: &Plan,
-) -> Result<Posts<J>, Failure>
+) -> Result<Posts<J, K, M>, Failure>
     requires ports { LeavesRoom options.now.listen }
 {
     let (nodes, _) = numbers(options);

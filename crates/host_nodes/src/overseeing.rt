@@ -8,20 +8,17 @@ use connection_rules::Least;
 use event_loop::TcpNode;
 use found_host::OpenFault;
 use http_wire::Sink;
-use node_process::{Process, Start, Stop, Surroundings, Teller};
+use node_process::{EndsSeen, Process, Start, Stop, Surroundings, Teller};
 use operator_notices::Notices;
 use std::alloc::Global;
 use std::sync::{Arc, Mutex, Wait};
-use std::time::{Clock, Duration};
+use std::time::Clock;
 
 /// How many milliseconds pass between two looks at what is to be told and at the signals.
 const TICK: u64 = 250;
 
 /// How many workers are asked for one descriptor at most. Eight nodes have 80.
 const MOST_ASKED: u32 = 128;
-
-/// How many seconds what goes on has once the program is asked to end.
-pub(crate) const DRAIN_SECONDS: u64 = 10;
 
 /// The nodes, as the main thread sees them.
 #[derive(Drop)]
@@ -114,7 +111,7 @@ impl<G: Tidy, N: Drop, M: Drop> Overseen<'_, G, N, M> {
         process: &P,
         teller: &mut Teller<'_, T>,
     ) {
-        let mut asked = 0;
+        let mut seen = EndsSeen::new();
         for _ in rt.forever() {
             if self.stop.waits(rt, TICK) {
                 teller.tell(rt, self.notices);
@@ -125,14 +122,8 @@ impl<G: Tidy, N: Drop, M: Drop> Overseen<'_, G, N, M> {
             }
             teller.tell(rt, self.notices);
             self.tidy(rt);
-            let now = process.ends_asked();
-            if now > asked {
-                self.drain(if asked == 0 && now == 1 {
-                    after(rt, DRAIN_SECONDS)
-                } else {
-                    0
-                });
-                asked = now;
+            if let Some(end) = seen.look(process.ends_asked(), milliseconds(rt)) {
+                self.drain(end);
             }
         }
         unreachable!()
@@ -176,13 +167,10 @@ fn first_to_go<'n, R: Wait, N: Drop>(
     Some((nodes.get(at)?, turn))
 }
 
-/// The time in so many seconds, in milliseconds of the clock.
-fn after<R: Clock>(rt: &R, seconds: u64) -> u64 {
+/// The time of the clock, in milliseconds; 0 where it can't be told.
+fn milliseconds<R: Clock>(rt: &R) -> u64 {
     match rt.monotonic() {
-        Ok(time) => {
-            let end = time.saturating_add(Duration::from_secs(seconds));
-            u64::try_from(end.as_millis()).unwrap_or(u64::MAX)
-        }
+        Ok(time) => u64::try_from(time.as_millis()).unwrap_or(u64::MAX),
         Err(_) => 0,
     }
 }

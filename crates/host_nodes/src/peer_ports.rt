@@ -5,7 +5,7 @@ use peer_link::{LocalChunks, PeerConnection, PeerProgress, PeerStage, PeerWants}
 use std::alloc::Global;
 use std::net::TcpStream;
 use std::sync::Wait;
-use tcp_socket::Socket;
+use tcp_socket::{Socket, Trail};
 use worker_connections::{Holding, Interest, Next, Step};
 
 /// Answers other nodes from the chunks of a node. Its steps wait for no socket, but a chunk that isn't in the caches is read from the store.
@@ -41,7 +41,7 @@ impl<R: Wait, C: LocalChunks> Steps for PeerSteps<'_, R, C> {
         connection: &mut PeerConnection,
         socket: &TcpStream,
     ) -> Step {
-        let mut socket = Socket::new(socket);
+        let mut socket = Socket::new(socket, &Trail::new());
         let progress = connection.go_on(self.rt, &mut socket, self.chunks);
         let stage = connection.stage();
         Step {

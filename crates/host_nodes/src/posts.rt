@@ -3,11 +3,14 @@ use crate::guests::NotedBox;
 use crate::lines::Failure;
 use crate::nodes::PEER_THREADS;
 use crate::ports::{Bound, Ports};
+use crate::showing::Houses;
 use crate::task_lists::{Task, tasks_of};
+use byte_view::BlobInfo;
 use connection_rules::Limits;
 use event_loop::{Node, NodePlan, TcpNode};
 use operator_notices::Notices;
 use peer_link::PeerConnection;
+use seen_lists::ListName;
 use shared_house::DeskVisitor;
 use site_desk::{DeskName, Seat, Seats};
 use socket_sets::ReadySet;
@@ -89,27 +92,27 @@ pub(crate) struct Staff<J: DeskName> {
 
 /// What each node has of its own: a seat, the clients that it serves, the other nodes that it answers, and its ports.
 #[derive(Drop)]
-pub(crate) struct Places<J: DeskName> {
+pub(crate) struct Places<J: DeskName, K: ListName<BlobInfo>, M: Houses> {
     pub(crate) seats: Vec<Mutex<Seat<J>>>,
-    pub(crate) nodes: Vec<TcpNode<NotedBox<J>>>,
+    pub(crate) nodes: Vec<TcpNode<NotedBox<J, K, M>>>,
     pub(crate) peers: Vec<TcpNode<PeerConnection>>,
     pub(crate) ports: Vec<Ports>,
 }
 
 /// A place for each of these ports.
-fn places_of<J: DeskName>(
+fn places_of<J: DeskName, K: ListName<BlobInfo>, M: Houses>(
     alloc: Global,
     seats: Seats<J>,
     bound: Bound,
     plan: &Plan,
-) -> Result<Places<J>, Failure> {
+) -> Result<Places<J, K, M>, Failure> {
     let Bound {
         clients,
         peers,
         ports,
     } = bound;
     let seats = seats_of(alloc, seats, ports.len())?;
-    let nodes = nodes_of::<NotedBox<J>>(
+    let nodes = nodes_of::<NotedBox<J, K, M>>(
         alloc,
         clients,
         plan.workers,
@@ -137,18 +140,18 @@ fn places_of<J: DeskName>(
 
 /// The places of the nodes, and what is to be done there.
 #[derive(Drop)]
-pub(crate) struct Posts<J: DeskName> {
-    pub(crate) places: Places<J>,
+pub(crate) struct Posts<J: DeskName, K: ListName<BlobInfo>, M: Houses> {
+    pub(crate) places: Places<J, K, M>,
     pub(crate) tasks: Vec<Task<J>>,
 }
 
 /// The posts of these who work at a desk, at these ports.
-pub(crate) fn posts_of<J: DeskName>(
+pub(crate) fn posts_of<J: DeskName, K: ListName<BlobInfo>, M: Houses>(
     alloc: Global,
     staff: Staff<J>,
     bound: Bound,
     plan: &Plan,
-) -> Result<Posts<J>, Failure> {
+) -> Result<Posts<J, K, M>, Failure> {
     let Staff { seats, visitor } = staff;
     let tasks = tasks_of(alloc, bound.ports.len(), plan.workers, visitor)?;
     Ok(Posts {

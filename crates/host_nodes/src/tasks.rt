@@ -1,9 +1,10 @@
 //! What each thread of the nodes does.
 use crate::errands::GuestErrands;
 use crate::groups::HostGroup;
-use crate::guests::{GuestSteps, NotedBox};
+use crate::guests::{GuestSteps, HostBox};
 use crate::nodes::{Job, Place, Shared, do_errands, place_at, serve_clients};
 use crate::peer_ports::PeerSteps;
+use crate::showing::HostHouses;
 use crate::task_lists::Task;
 use blob_store::{AbsenceReceipt, PutReceipt, Shelf, ShelfAccess};
 use byte_view::BlobInfo;
@@ -32,16 +33,16 @@ pub(crate) type HostShared<'a, 'g, 'h, J, K, D, S, T, R, Q, U, N> = Shared<
     Desk<J, K, D, S, T, R>,
     Mutex<Seat<J>>,
     HostGroup<'g, 'h, R, S, Q, U, N>,
-    TcpNode<NotedBox<J>>,
+    TcpNode<HostBox<J, K, D, S, Q, U, N>>,
     TcpNode<PeerConnection>,
 >;
 
 /// What the threads of a node work with.
-type HostPlace<'s, 'g, 'h, J, R, S, Q, U, N> = Place<
+type HostPlace<'s, 'g, 'h, J, K, D, R, S, Q, U, N> = Place<
     's,
     Mutex<Seat<J>>,
     HostGroup<'g, 'h, R, S, Q, U, N>,
-    TcpNode<NotedBox<J>>,
+    TcpNode<HostBox<J, K, D, S, Q, U, N>>,
     TcpNode<PeerConnection>,
 >;
 
@@ -50,6 +51,8 @@ type HostJob<'a, 'g, 'h, J, K, D, S, T, R, Q, U, N> = Job<
     'a,
     GuestSteps<
         J,
+        K,
+        HostHouses<J, D, S, Q, U, N>,
         SeatedDesk<'a, J, K, D, S, T, R, R, Q, U, N>,
         CachedFiles<'a, R, HostGroup<'g, 'h, R, S, Q, U, N>>,
         Quick,
@@ -97,7 +100,7 @@ fn job_of<
     desk: &'a Desk<J, K, D, S, T, R>,
     access: &'a Q,
     parsing: &'a Mutex<()>,
-    place: &HostPlace<'a, 'g, 'h, J, R, S, Q, U, N>,
+    place: &HostPlace<'a, 'g, 'h, J, K, D, R, S, Q, U, N>,
     visitor: DeskVisitor<J>,
 ) -> Option<HostJob<'a, 'g, 'h, J, K, D, S, T, R, Q, U, N>> {
     let desk = SeatedDesk::new(rt, desk, access, place.seat, parsing);
@@ -106,7 +109,7 @@ fn job_of<
     let guest = Guest::new(house, Quick);
     Some(Job {
         node: place.node,
-        steps: GuestSteps { guest },
+        steps: GuestSteps::new(guest),
     })
 }
 
@@ -130,7 +133,7 @@ fn serve_with<
     desk: &'a Desk<J, K, D, S, T, R>,
     access: &'a Q,
     parsing: &'a Mutex<()>,
-    place: &HostPlace<'a, 'g, 'h, J, R, S, Q, U, N>,
+    place: &HostPlace<'a, 'g, 'h, J, K, D, R, S, Q, U, N>,
     visitor: DeskVisitor<J>,
 ) {
     if let Some(job) = job_of(rt, desk, access, parsing, place, visitor) {
@@ -158,7 +161,7 @@ fn answer_left<
     desk: &'a Desk<J, K, D, S, T, R>,
     access: &'a Q,
     parsing: &'a Mutex<()>,
-    place: &HostPlace<'a, 'g, 'h, J, R, S, Q, U, N>,
+    place: &HostPlace<'a, 'g, 'h, J, K, D, R, S, Q, U, N>,
 ) {
     let errands = GuestErrands {
         rt,
@@ -174,12 +177,14 @@ fn answer_left<
 /// Answers other nodes from the part of a node in the group, until it ends.
 fn answer_peers<
     J: DeskName,
+    K: ListName<BlobInfo>,
+    D: Disk,
     S,
     R: Net<Stream = TcpStream> + Clock + Wait,
     Q: ShelfAccess<S, U, N>,
     U: PutReceipt + Drop,
     N: AbsenceReceipt + Drop,
->(rt: &R, alloc: Global, place: &HostPlace<'_, '_, '_, J, R, S, Q, U, N>) {
+>(rt: &R, alloc: Global, place: &HostPlace<'_, '_, '_, J, K, D, R, S, Q, U, N>) {
     let steps = PeerSteps {
         rt,
         chunks: place.group,

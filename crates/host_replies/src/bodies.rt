@@ -1,5 +1,5 @@
 //! The bodies of replies.
-ghost use Rattle.std.specs.Prelude.{◌≡◌, false, length};
+ghost use Rattle.std.specs.Prelude.{◌≡◌, [], false, length, true};
 ghost use Rattle.std.specs.List.{concat};
 ghost use Rattle.host_replies.specs.Bodies.{bytes_of, is_withheld, text_bytes};
 
@@ -54,15 +54,15 @@ impl Body {
         }
     }
 
-    /// Its parts, in order, each as it lies. It takes no memory.
+    /// Its parts, in order, each as it lies; no byte of a file of which nothing is read. It takes no memory.
     pub(crate) fn parts(&self) -> Parts<'_>
-        requires { is_withheld self.now ≡ false }
-        ensures { concat result ≡ bytes_of self.now }
+        ensures sent { is_withheld self.now ≡ false → concat result ≡ bytes_of self.now }
+        ensures withheld { is_withheld self.now ≡ true → concat result ≡ [] }
     {
         match self {
             Body::Text(text) => Parts::of(text.bytes()),
             Body::File(sent) => sent.parts(),
-            Body::Unread(_) => unreachable!(),
+            Body::Unread(_) => Parts::of(&[]),
         }
     }
 }

@@ -1,5 +1,5 @@
 //! Replies, before they are written.
-ghost use Rattle.std.specs.Prelude.{◌≡◌, ◌≢◌, ◌↔◌, All, length, true, false, Some, None, IsTrue, IfOk, IfErr, OnErr, Err, IsErrOf, MatchOption, option_map};
+ghost use Rattle.std.specs.Prelude.{◌≡◌, ◌≢◌, ◌↔◌, [], All, length, true, false, Some, None, IsTrue, IfOk, IfErr, OnErr, Err, IsErrOf, MatchOption, option_map};
 ghost use Rattle.std.specs.List.{concat};
 ghost use Rattle.http_wire.specs.Replies.{fields_of};
 ghost use Rattle.host_api.specs.Texts.{has_cell, told_text};
@@ -274,10 +274,11 @@ impl Reply {
         }
     }
 
-    /// Its parts, in order, each as it lies. It takes no memory.
-    fn parts(&self) -> Parts<'_>
-        requires { (answer_of self.now).withheld ≡ false }
-        ensures { concat result ≡ (answer_of self.now).body }
+    /// The parts of its body, in order, each as it lies: a text, or bytes of a file that it holds. A reply that tells of a file without a byte of
+    /// it has no byte to lend. It takes no memory.
+    pub fn parts(&self) -> Parts<'_>
+        ensures sent { (answer_of self.now).withheld ≡ false → concat result ≡ (answer_of self.now).body }
+        ensures withheld { (answer_of self.now).withheld ≡ true → concat result ≡ [] }
     {
         self.body.parts()
     }

@@ -53,22 +53,22 @@ plainly why answer plain (inr ran_out) = absurd (plain ran_out.1)
 
 module _ {S D : Type 0} {disk : Ghosts D} (server next : Server S D disk) (answer : Answer) where
   -- an outcome is told; or there was no memory for an entry, or the journal's device failed
-  abbrev pub IsDone : (stops : Type 0) → Outcome → Type 0
+  abbrev pub IsDone : (stops : Entry → Type 0) → Outcome → Type 0
   IsDone stops out =
       (Tells out.told answer × (next.house ≡ out.host) × (next.files ≡ server.files) × GoesOn server next)
-      ⊎ ((answer ≡ refused_answer reason.OutOfMemory) × stops × (next.files ≡ server.files) × GoesOn server next)
-      ⊎ ((answer ≡ refused_answer reason.Device) × stops × (next.files ≡ server.files) × Breaks server next)
+      ⊎ ((answer ≡ refused_answer reason.OutOfMemory) × (missed : Entry) × stops missed × (next.files ≡ server.files) × GoesOn server next)
+      ⊎ ((answer ≡ refused_answer reason.Device) × (missed : Entry) × stops missed × (next.files ≡ server.files) × Breaks server missed next)
 
   -- where a call ran out of memory there was none for an entry, or the outcome is one whose text takes memory
-  abbrev pub Lacks : (stops : Type 0) → Outcome → Type 0
-  Lacks stops out = stops ⊎ (IsTrue (takes_text out.told) × (next.house ≡ out.host))
+  abbrev pub Lacks : (stops : Entry → Type 0) → Outcome → Type 0
+  Lacks stops out = ((missed : Entry) × stops missed) ⊎ (IsTrue (takes_text out.told) × (next.house ≡ out.host))
 
   abbrev pub IsBrokenOr : (does : Type 0) → Type 0
   IsBrokenOr does =
       ((is_broken server.journal ≡ true) × (answer ≡ refused_answer reason.Broken) × (next ≡ server))
       ⊎ ((is_broken server.journal ≡ false) × does)
 
-  pub done : (B : Type 0) (out : Outcome) (tells : Told) → tells ≡ out.told → next.house ≡ out.host → next.files ≡ server.files → GoesOn server next
+  pub done : (B : Entry → Type 0) (out : Outcome) (tells : Told) → tells ≡ out.told → next.house ≡ out.host → next.files ≡ server.files → GoesOn server next
       → Tells tells answer → IsDone B out
   done B out tells same house files kept says = inl (subst (λ (t : Told). Tells t answer) same says, house, files, kept)
 
@@ -80,9 +80,9 @@ module _ {S D : Type 0} {disk : Ghosts D} (server next : Server S D disk) (answe
   unless_told does result (inr (whole, is)) says then = inr (whole, then is)
 
   -- there is no entry
-  pub not_entered : (B : Type 0) (out : Outcome) (entry : Entry) (refusal : Option ChangeRefusal) (may_lack : Type 0) (why : Stop)
+  pub not_entered : (B : Entry → Type 0) (out : Outcome) (entry : Entry) (refusal : Option ChangeRefusal) (may_lack : Type 0) (why : Stop)
       → ((told_why : ChangeRefusal) → refusal ≡ Some told_why → out ≡ refused server.house (reason.Change told_why))
-      → (may_lack → next.house ≡ server.house → Lacks B out) → (refusal ≡ None → next.house ≡ server.house → B)
+      → (may_lack → next.house ≡ server.house → Lacks B out) → (refusal ≡ None → next.house ≡ server.house → B entry)
       → EntersAt entry refusal may_lack server (Err why) next → Tells (told.Refused (told_stop why)) answer → IsDone B out
   not_entered B out entry refusal may_lack stop.Broken refuses lacks stops never says = absurd never
   not_entered B out entry refusal may_lack (stop.Refused why) refuses lacks stops (is, (house, journal, files)) says =
@@ -92,14 +92,14 @@ module _ {S D : Type 0} {disk : Ghosts D} (server next : Server S D disk) (answe
   not_entered B out entry refusal may_lack stop.OutOfMemory refuses lacks stops (may, (house, journal, files)) says =
       let kept = keeps_same disk server.house next.house server.journal next.journal house journal in
       elim (lacks may house) [
-        | inl stopped ↦ inr (inl (no_memory answer says, stopped, files, kept))
+        | inl (missed, stopped) ↦ inr (inl (no_memory answer says, missed, stopped, files, kept))
         | inr (takes, left) ↦ inl (inr (no_memory answer says, takes), left, files, kept)
       ]
   not_entered B out entry refusal may_lack stop.Device refuses lacks stops (none, house, put, files) says =
-      inr (inr (plainly reason.Device answer (λ e. cc e) says, stops none house, files, breaks_at disk entry server.house next.house server.journal next.journal house put))
+      inr (inr (plainly reason.Device answer (λ e. cc e) says, entry, stops none house, files, breaks_at disk entry server.house next.house server.journal next.journal house put))
 
-  pub entered_told : (B : Type 0) (entry : Entry) (refusal : Option ChangeRefusal) (may_lack : Type 0) (result : Result ℕ Stop)
-      → (may_lack → next.house ≡ server.house → Lacks B (enter_outcome server.house entry refusal)) → (refusal ≡ None → next.house ≡ server.house → B)
+  pub entered_told : (B : Entry → Type 0) (entry : Entry) (refusal : Option ChangeRefusal) (may_lack : Type 0) (result : Result ℕ Stop)
+      → (may_lack → next.house ≡ server.house → Lacks B (enter_outcome server.house entry refusal)) → (refusal ≡ None → next.house ≡ server.house → B entry)
       → EntersAt entry refusal may_lack server result next → Tells (told_entry result) answer → IsDone B (enter_outcome server.house entry refusal)
   entered_told B entry refusal may_lack (Ok number) lacks stops (none, is, house, put, files) says =
       let there : enter_outcome server.house entry refusal ≡ entering server.house entry = ap (enter_outcome server.house entry) none in
@@ -123,8 +123,8 @@ module _ {S D : Type 0} {disk : Ghosts D} (did : S → Call → S → Type 0) (f
   abbrev pub CarriesOut : Result Ask Refusal → Type 0
   CarriesOut asking =
       (IsReplyToAsk did failures server parts body asking answer next × GoesOn server next)
-      ⊎ ((answer ≡ refused_answer reason.OutOfMemory) × AskStops did server body asking next × GoesOn server next)
-      ⊎ ((answer ≡ refused_answer reason.Device) × AskStops did server body asking next × Breaks server next)
+      ⊎ ((answer ≡ refused_answer reason.OutOfMemory) × (missed : Entry) × AskStops did server body asking missed next × GoesOn server next)
+      ⊎ ((answer ≡ refused_answer reason.Device) × (missed : Entry) × AskStops did server body asking missed next × Breaks server missed next)
 
   -- the answer to what is asked for
   abbrev pub AnswersAsk : Result Ask Refusal → Type 0
@@ -141,12 +141,12 @@ module _ {S D : Type 0} {disk : Ghosts D} (did : S → Call → S → Type 0) (f
   free asking is does = inr (is, does)
 
   -- an outcome that comes of what is asked for
-  pub carried_out : (asking : Result Ask Refusal) (B : Type 0) (out : Outcome)
+  pub carried_out : (asking : Result Ask Refusal) (B : Entry → Type 0) (out : Outcome)
       → (Tells out.told answer → next.house ≡ out.host → next.files ≡ server.files → IsReplyToAsk did failures server parts body asking answer next)
-      → (B → next.files ≡ server.files → AskStops did server body asking next) → IsDone server next answer B out → CarriesOut asking
+      → ((missed : Entry) → B missed → next.files ≡ server.files → AskStops did server body asking missed next) → IsDone server next answer B out → CarriesOut asking
   carried_out asking B out replies stops (inl (says, house, files, kept)) = inl (replies says house files, kept)
-  carried_out asking B out replies stops (inr (inl (says, left, files, kept))) = inr (inl (says, stops left files, kept))
-  carried_out asking B out replies stops (inr (inr (says, left, files, broken))) = inr (inr (says, stops left files, broken))
+  carried_out asking B out replies stops (inr (inl (says, missed, left, files, kept))) = inr (inl (says, missed, stops missed left files, kept))
+  carried_out asking B out replies stops (inr (inr (says, missed, left, files, broken))) = inr (inr (says, missed, stops missed left files, broken))
 
   pub map_done : {P Q : Type 0} → (P → Q) → IsBrokenOr server next answer P → IsBrokenOr server next answer Q
   map_done f (inl held_up) = inl held_up
@@ -156,8 +156,8 @@ module _ {S D : Type 0} {disk : Ghosts D} (did : S → Call → S → Type 0) (f
 
   -- the undo isn't refused, or by a clash
   undo_lacks : (entry : Entry) (refusal : Option ChangeRefusal) → IsTrue (may_take_memory refusal) → next.house ≡ server.house
-      → Lacks server next answer ((next.house ≡ server.house) × (refusal ≡ None)) (enter_outcome server.house entry refusal)
-  undo_lacks entry None may house = inl (house, refl)
+      → Lacks server next answer (λ (missed : Entry). (next.house ≡ server.house) × (refusal ≡ None) × (missed ≡ entry)) (enter_outcome server.house entry refusal)
+  undo_lacks entry None may house = inl (entry, (house, refl, refl))
   undo_lacks entry (Some (Clash later cell)) may house = inr (refl, house)
   undo_lacks entry (Some other) may house = absurd (cc may)
 
@@ -165,12 +165,12 @@ module _ {S D : Type 0} {disk : Ghosts D} (did : S → Call → S → Type 0) (f
   undo_told site k (result, undoes, says) =
       let refusal = undo_refusal server.house site k in
       let may = IsTrue (may_take_memory refusal) in
-      let B : Type 0 = (next.house ≡ server.house) × (refusal ≡ None) in
+      let B : Entry → Type 0 = λ missed. (next.house ≡ server.house) × (refusal ≡ None) × (missed ≡ Undo site k) in
       let out = enter_outcome server.house (Undo site k) refusal in
       held (Ok (ask.Undo site k)) (and_true (is_broken server.journal))
-      (map_done (carried_out (Ok (ask.Undo site k)) B out (λ says house files. (out, refl, says, house, files)) (λ left files. (left, files)))
+      (map_done (carried_out (Ok (ask.Undo site k)) B out (λ says house files. (out, refl, says, house, files)) (λ missed left files. (left, files)))
       (unless_told server next answer (EntersAt (Undo site k) refusal may) result undoes says (λ is.
-      entered_told server next answer B (Undo site k) refusal may result (undo_lacks (Undo site k) refusal) (λ none house. (house, none)) is says)))
+      entered_told server next answer B (Undo site k) refusal may result (undo_lacks (Undo site k) refusal) (λ none house. (house, none, refl)) is says)))
 
   -- ---- a command that opens nothing
 
@@ -178,12 +178,12 @@ module _ {S D : Type 0} {disk : Ghosts D} (did : S → Call → S → Type 0) (f
   abbrev pub CommandDone : Command → Type 0
   CommandDone change =
       (out : Outcome) × ComesOf server.house (Ok (ask.Command change)) out
-      × IsDone server next answer (HostStops server.house (Ok (ask.Command change)) next.house) out
+      × IsDone server next answer (λ (missed : Entry). HostStops server.house (Ok (ask.Command change)) missed next.house) out
 
   pub command_done : (change : Command) → CommandDone change → CarriesOut (Ok (ask.Command change))
   command_done change (out, comes, is) =
-      carried_out (Ok (ask.Command change)) (HostStops server.house (Ok (ask.Command change)) next.house) out (λ says house files. (out, comes, says, house, files))
-      (λ left files. (left, files)) is
+      carried_out (Ok (ask.Command change)) (λ (missed : Entry). HostStops server.house (Ok (ask.Command change)) missed next.house) out
+      (λ says house files. (out, comes, says, house, files)) (λ missed left files. (left, files)) is
 
   -- nothing follows
   only_told : (mid : Server S D disk) (result : Result ℕ Stop) → FollowsBy (calls_of did failures) mid None result answer next → Tells (told_entry result) answer × (next ≡ mid)
@@ -197,14 +197,14 @@ module _ {S D : Type 0} {disk : Ghosts D} (did : S → Call → S → Type 0) (f
       (subst (CommitsAt server change result) (sym only.1) commits, only.0)
 
   -- the entry of such a command alone
-  alone : (B : Type 0) (change : Command) → opened_by change ≡ None → ChangesBy (calls_of did failures) server change answer next
-      → (commit_refusal server.house change ≡ None → next.house ≡ server.house → B)
+  alone : (B : Entry → Type 0) (change : Command) → opened_by change ≡ None → ChangesBy (calls_of did failures) server change answer next
+      → (commit_refusal server.house change ≡ None → next.house ≡ server.house → B (Change change))
       → IsBrokenOr server next answer (IsDone server next answer B (enter_outcome server.house (Change change) (commit_refusal server.house change)))
   alone B change none (result, mid, commits, follows) stops =
       let told_so = not_opened change mid result none commits follows in
       let refusal = commit_refusal server.house change in
       unless_told server next answer (EntersAt (Change change) refusal (refusal ≡ None)) result told_so.0 told_so.1 (λ is.
-      entered_told server next answer B (Change change) refusal (refusal ≡ None) result (λ free_of house. inl (stops free_of house)) stops is told_so.1)
+      entered_told server next answer B (Change change) refusal (refusal ≡ None) result (λ free_of house. inl (Change change, stops free_of house)) stops is told_so.1)
 
   comes_alone : (change : Command) (refusal : Option ChangeRefusal) → opened_by change ≡ None
       → MatchOption refusal (IsCommitted server.house change (enter_outcome server.house (Change change) refusal)) (λ why.
@@ -215,15 +215,15 @@ module _ {S D : Type 0} {disk : Ghosts D} (did : S → Call → S → Type 0) (f
 
   pub commit_told : (change : Command) → opened_by change ≡ None → ChangesBy (calls_of did failures) server change answer next → AnswersAsk (Ok (ask.Command change))
   commit_told change none changes =
-      let B = HostStops server.house (Ok (ask.Command change)) next.house in
+      let B : Entry → Type 0 = λ missed. HostStops server.house (Ok (ask.Command change)) missed next.house in
       let refusal = commit_refusal server.house change in
       held (Ok (ask.Command change)) (and_true (is_broken server.journal))
       (map_done (λ is. command_done change (enter_outcome server.house (Change change) refusal, comes_alone change refusal none, is))
-      (alone B change none changes (λ is house. (is, inl house))))
+      (alone B change none changes (λ is house. (is, inl (house, refl)))))
 
   -- ---- a command on a deploy
 
-  no_deploy : (B : Type 0) (change : SiteName → Command) (site : Option SiteName) → site ≡ None → Tells (told.Refused (reason.Change NoSuchDeploy)) answer → next ≡ server
+  no_deploy : (B : Entry → Type 0) (change : SiteName → Command) (site : Option SiteName) → site ≡ None → Tells (told.Refused (reason.Change NoSuchDeploy)) answer → next ≡ server
       → IsDone server next answer B (outcome_on server.house change site)
   no_deploy B change site none says same =
       let house = ap (λ (s : Server S D disk). s.house) same in
@@ -235,15 +235,15 @@ module _ {S D : Type 0} {disk : Ghosts D} (did : S → Call → S → Type 0) (f
   pub deploy_told : (n : ℕ) (asking : Ask) (change : SiteName → Command) (site : Option SiteName) → site_of_deploy (entry_at server.house.entries n) ≡ site
       → (holds_up server (Ok asking) ≡ (is_broken server.journal && is_some (site_of_deploy (entry_at server.house.entries n))))
       → ((owner : SiteName) → opened_by (change owner) ≡ None)
-      → (IsDone server next answer (DeployStops server.house n change next.house) (deploy_outcome server.house n change) → CarriesOut (Ok asking))
+      → (IsDone server next answer (λ (missed : Entry). DeployStops server.house n change missed next.house) (deploy_outcome server.house n change) → CarriesOut (Ok asking))
       → InSite (calls_of did failures) server site (λ owner. ChangesBy (calls_of did failures) server (change owner)) answer next → AnswersAsk (Ok asking)
   deploy_told n asking change None is holds none carried (says, same) =
       free (Ok asking) (holds ∙ ap (λ (s : Option SiteName). is_broken server.journal && is_some s) is ∙ and_false (is_broken server.journal))
-      (carried (no_deploy (DeployStops server.house n change next.house) change (site_of_deploy (entry_at server.house.entries n)) is says same))
+      (carried (no_deploy (λ missed. DeployStops server.house n change missed next.house) change (site_of_deploy (entry_at server.house.entries n)) is says same))
   deploy_told n asking change (Some owner) is holds none carried changes =
-      let B = DeployStops server.house n change next.house in
+      let B : Entry → Type 0 = λ missed. DeployStops server.house n change missed next.house in
       let refuses : deploy_outcome server.house n change ≡ enter_outcome server.house (Change (change owner)) (commit_refusal server.house (change owner)) =
       ap (outcome_on server.house change) is in
       held (Ok asking) (holds ∙ ap (λ (s : Option SiteName). is_broken server.journal && is_some s) is ∙ and_true (is_broken server.journal))
       (map_done (λ does. carried (subst (IsDone server next answer B) (sym refuses) does))
-      (alone B (change owner) (none owner) changes (λ free_of house. (house, owner, is, free_of))))
+      (alone B (change owner) (none owner) changes (λ free_of house. (house, owner, is, free_of, refl))))

@@ -73,4 +73,4 @@ module _ {S D : Type 0} {disk : Ghosts D} (did : S → Call → S → Type 0) (f
       reply_back server next parts path (file_of (state_of server.house) site version path) file answer is known
       (subst (λ (a : Result Ask Refusal). IsReplyToAsk did failures server parts body a answer next) asks reply)
   answered_back server next parts body answer site version path file known asks is (inr (inl (says, out, kept))) = inl says
-  answered_back server next parts body answer site version path file known asks is (inr (inr (says, stops, broken))) = inr (inl says)
+  answered_back server next parts body answer site version path file known asks is (inr (inr (says, missed, stops, broken))) = inr (inl says)

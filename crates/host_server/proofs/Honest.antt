@@ -13,6 +13,7 @@ use Rattle.host_server.proofs.HonestReads.{node_not_read, node_read}
 use Rattle.host_server.proofs.StoredIf.{IsStoredIf}
 use Rattle.chunk_group.specs.Cached.{CachedShelf}
 use Rattle.range_spec.specs.declared.selection.Choice.{Choice}
+use Rattle.site_change.specs.declared.entries.Entry.{Entry}
 use Rattle.http_wire.specs.Requests.{RequestParts}
 use Rattle.host_api.specs.Types.{type_of}
 use Rattle.host_api.specs.declared.bodies.Ask.{Ask}
@@ -97,10 +98,10 @@ module _ {S D : Type 0} {disk : Ghosts D} (did : S → Call → S → Type 0) (f
           record { large = none.large; unknown = none.unknown; failed = none.failed; put = all.1 } in
           (all.0, record { at = is.at; allowed = is.allowed; not_stored = not_stored; cache = is.cache; same = is.same })
 
-      unpublished : IsUnpublished did server judged n bytes next → IsTrue (honest server.files.shelf) × IsUnpublished (Where honest did) server judged n bytes next
-      unpublished is =
+      unpublished : (missed : Entry) → IsUnpublished did server judged n bytes missed next → IsTrue (honest server.files.shelf) × IsUnpublished (Where honest did) server judged n bytes missed next
+      unpublished missed is =
           let all = stored server.house.uploads bytes is.stored in
-          (all.0, record { at = is.at; allowed = is.allowed; stored = all.1; cache = is.cache; known = is.known; published = is.published })
+          (all.0, record { at = is.at; allowed = is.allowed; stored = all.1; cache = is.cache; known = is.known; published = is.published; missed_is = is.missed_is })
 
       upload_reply : (answer : Answer) → IsUploadReply did failures server n path bytes answer next → IsTrue (honest server.files.shelf) × IsUploadReply (Where honest did) failures server n path bytes answer next
       upload_reply answer (inl (told, done, says)) =
@@ -119,9 +120,9 @@ module _ {S D : Type 0} {disk : Ghosts D} (did : S → Call → S → Type 0) (f
       reply_to (Ok (ask.Upload n path)) answer is = upload_reply n path body answer is
       reply_to asking answer is = (same_files is.4, is)
 
-      stops : (asking : Result Ask Refusal) → AskStops did server body asking next → IsTrue (honest server.files.shelf) × AskStops (Where honest did) server body asking next
-      stops (Ok (ask.Upload n path)) is = unpublished n path body is
-      stops asking is = (same_files is.1, is)
+      stops : (asking : Result Ask Refusal) (missed : Entry) → AskStops did server body asking missed next → IsTrue (honest server.files.shelf) × AskStops (Where honest did) server body asking missed next
+      stops (Ok (ask.Upload n path)) missed is = unpublished n path body missed is
+      stops asking missed is = (same_files is.1, is)
 
       pub answered : (answer : Answer) → IsAnswer did failures server parts body answer next
           → IsTrue (honest server.files.shelf) × IsAnswer (Where honest did) failures server parts body answer next
@@ -130,9 +131,9 @@ module _ {S D : Type 0} {disk : Ghosts D} (did : S → Call → S → Type 0) (f
           let all = reply_to (asked_for parts body) answer reply in
           (all.0, inl (inr (free, all.1), kept))
       answered answer (inr (inl (says, inl (same, takes), kept))) = (same_server same, inr (inl (says, inl (same, takes), kept)))
-      answered answer (inr (inl (says, inr (free, halts), kept))) =
-          let all = stops (asked_for parts body) halts in
-          (all.0, inr (inl (says, inr (free, all.1), kept)))
-      answered answer (inr (inr (says, halts, broken))) =
-          let all = stops (asked_for parts body) halts in
-          (all.0, inr (inr (says, all.1, broken)))
+      answered answer (inr (inl (says, inr (free, missed, halts), kept))) =
+          let all = stops (asked_for parts body) missed halts in
+          (all.0, inr (inl (says, inr (free, missed, all.1), kept)))
+      answered answer (inr (inr (says, missed, halts, broken))) =
+          let all = stops (asked_for parts body) missed halts in
+          (all.0, inr (inr (says, missed, all.1, broken)))

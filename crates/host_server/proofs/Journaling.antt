@@ -58,11 +58,10 @@ module _ {D : Type 0} (disk : Ghosts D) where
     put = puts_then j ab.more bc.more k l ab.put bc.put;
   }
 
-  pub breaks_then : (a b c : Host) (j k l : Option (Keeps D)) → KeepsUp disk a j b k → BreaksOff disk b k c l → BreaksOff disk a j c l
-  breaks_then a b c j k l ab bc = record {
+  pub breaks_then : (a b c : Host) (j k l : Option (Keeps D)) (missed : Entry) → KeepsUp disk a j b k → BreaksOff disk b k missed c l → BreaksOff disk a j missed c l
+  breaks_then a b c j k l missed ab bc = record {
     more = ab.more ++ bc.more;
     longer = bc.longer ∙ ap (λ (es : List Entry). es ++ bc.more) ab.longer ∙ append_assoc a.entries ab.more bc.more;
-    missed = bc.missed;
     put = record {
       mid = bc.put.mid;
       put = puts_then j ab.more bc.more k (Some bc.put.mid) ab.put bc.put.put;
@@ -73,32 +72,33 @@ module _ {D : Type 0} (disk : Ghosts D) where
   }
 
   -- the device failed, or the journal kept up
-  pub journaled_as : {A : Type 0} (result : Result A Refusal) (old new : Host) (journal next : Option (Keeps D)) → IsJournaled disk result old journal new next
-      → ((result ≡ Err reason.Device) × BreaksOff disk old journal new next) ⊎ ((result ≢ Err reason.Device) × KeepsUp disk old journal new next)
-  journaled_as (Ok x) old new journal next is = inr ((λ e. cc e), is)
-  journaled_as (Err reason.Device) old new journal next is = inl (refl, is)
-  journaled_as (Err other) old new journal next is = inr ((λ e. cc e), is)
+  pub journaled_as : {A : Type 0} (entry : Entry) (result : Result A Refusal) (old new : Host) (journal next : Option (Keeps D)) → IsJournaled disk entry result old journal new next
+      → ((result ≡ Err reason.Device) × BreaksOff disk old journal entry new next) ⊎ ((result ≢ Err reason.Device) × KeepsUp disk old journal new next)
+  journaled_as entry (Ok x) old new journal next is = inr ((λ e. cc e), is)
+  journaled_as entry (Err reason.Device) old new journal next is = inl (refl, is)
+  journaled_as entry (Err other) old new journal next is = inr ((λ e. cc e), is)
 
-  pub journaled_then : {A : Type 0} (result : Result A Refusal) (a b c : Host) (j k l : Option (Keeps D)) → KeepsUp disk a j b k → IsJournaled disk result b k c l
-      → IsJournaled disk result a j c l
-  journaled_then (Ok x) a b c j k l ab bc = keeps_then a b c j k l ab bc
-  journaled_then (Err reason.Device) a b c j k l ab bc = breaks_then a b c j k l ab bc
-  journaled_then (Err other) a b c j k l ab bc = keeps_then a b c j k l ab bc
+  pub journaled_then : {A : Type 0} (entry : Entry) (result : Result A Refusal) (a b c : Host) (j k l : Option (Keeps D)) → KeepsUp disk a j b k
+      → IsJournaled disk entry result b k c l → IsJournaled disk entry result a j c l
+  journaled_then entry (Ok x) a b c j k l ab bc = keeps_then a b c j k l ab bc
+  journaled_then entry (Err reason.Device) a b c j k l ab bc = breaks_then a b c j k l entry ab bc
+  journaled_then entry (Err other) a b c j k l ab bc = keeps_then a b c j k l ab bc
 
   -- it has the host's entries
 
   pub agrees_after : (old new : Host) (journal next : Option (Keeps D)) → Agrees journal old.entries → KeepsUp disk old journal new next → Agrees next new.entries
   agrees_after old new journal next agrees keeps = subst (Agrees next) (sym keeps.longer) (puts_entries journal keeps.more next old.entries agrees keeps.put)
 
-  pub agrees_broken : (old new : Host) (journal next : Option (Keeps D)) → Agrees journal old.entries → BreaksOff disk old journal new next → Agrees next new.entries
-  agrees_broken old new journal next agrees breaks =
+  pub agrees_broken : (old new : Host) (journal next : Option (Keeps D)) (missed : Entry) → Agrees journal old.entries → BreaksOff disk old journal missed new next
+      → Agrees next new.entries
+  agrees_broken old new journal next missed agrees breaks =
       let had = puts_entries journal breaks.more (Some breaks.put.mid) old.entries agrees breaks.put.put in
       subst (λ (j : Option (Keeps D)). Agrees j new.entries) (sym breaks.put.is) (breaks.put.in_vain.entries ∙ had ∙ sym breaks.longer)
 
-  pub agrees_journaled : {A : Type 0} (result : Result A Refusal) (old new : Host) (journal next : Option (Keeps D)) → Agrees journal old.entries
-      → IsJournaled disk result old journal new next → Agrees next new.entries
-  agrees_journaled result old new journal next agrees is = elim (journaled_as result old new journal next is) [
-    | inl broken ↦ agrees_broken old new journal next agrees broken.1
+  pub agrees_journaled : {A : Type 0} (entry : Entry) (result : Result A Refusal) (old new : Host) (journal next : Option (Keeps D)) → Agrees journal old.entries
+      → IsJournaled disk entry result old journal new next → Agrees next new.entries
+  agrees_journaled entry result old new journal next agrees is = elim (journaled_as entry result old new journal next is) [
+    | inl broken ↦ agrees_broken old new journal next entry agrees broken.1
     | inr kept ↦ agrees_after old new journal next agrees kept.1
   ]
 
@@ -109,18 +109,19 @@ module _ {D : Type 0} (disk : Ghosts D) where
   entered_ok entry old new journal next put is = record { more = entry ∷ []; longer = ap (λ (h : Host). h.entries) is; put = put }
 
   -- the device failed in the first put
-  pub breaks_at : (entry : Entry) (old new : Host) (journal next : Option (Keeps D)) → new ≡ old → PutsInPart disk journal [] entry next → BreaksOff disk old journal new next
+  pub breaks_at : (entry : Entry) (old new : Host) (journal next : Option (Keeps D)) → new ≡ old → PutsInPart disk journal [] entry next
+      → BreaksOff disk old journal entry new next
   breaks_at entry old new journal next same put =
-      record { more = []; longer = ap (λ (h : Host). h.entries) same ∙ sym (append-nil old.entries); missed = entry; put = put }
+      record { more = []; longer = ap (λ (h : Host). h.entries) same ∙ sym (append-nil old.entries); put = put }
 
   of_error : (A B : Type 0) (e : EntryError) (entry : Entry) (old new : Host) (journal next : Option (Keeps D)) → new ≡ old → IsEntered {A = A} disk (Err e) entry journal next
-      → IsJournaled {A = B} disk (Err (told_stop (stop_of e))) old journal new next
+      → IsJournaled {A = B} disk entry (Err (told_stop (stop_of e))) old journal new next
   of_error A B (error.Refused why) entry old new journal next same put = keeps_same old new journal next same put
   of_error A B error.OutOfMemory entry old new journal next same put = keeps_same old new journal next same put
   of_error A B error.Device entry old new journal next same put = breaks_at entry old new journal next same put
 
   pub entered_err : {A B : Type 0} (result : Result A EntryError) (told : Result B Refusal) (why : EntryError) (entry : Entry) (old new : Host) (journal next : Option (Keeps D))
-      → IsEntered disk result entry journal next → result ≡ Err why → told ≡ Err (told_stop (stop_of why)) → new ≡ old → IsJournaled disk told old journal new next
+      → IsEntered disk result entry journal next → result ≡ Err why → told ≡ Err (told_stop (stop_of why)) → new ≡ old → IsJournaled disk entry told old journal new next
   entered_err {A = A} {B = B} result told why entry old new journal next put is tells same =
       let there : IsEntered {A = A} disk (Err why) entry journal next = subst (λ (r : Result A EntryError). IsEntered disk r entry journal next) is put in
-      subst (λ (r : Result B Refusal). IsJournaled disk r old journal new next) (sym tells) (of_error A B why entry old new journal next same there)
+      subst (λ (r : Result B Refusal). IsJournaled disk entry r old journal new next) (sym tells) (of_error A B why entry old new journal next same there)

@@ -93,7 +93,7 @@ module _ {S D : Type 0} {disk : Ghosts D} (did : S → Call → S → Type 0) (f
       → judged ≡ Ok at → mid ≡ with_upload server.house bytes
       → IsStored did server.house.uploads server.files.shelf bytes next.files.shelf → next.files.cache ≡ server.files.cache
       → IsTrue (is_published mid at.0 n) → OnErr entry (next.house ≡ mid) → entry ≡ Err why
-      → IsUnpublished did server judged n bytes next
+      → IsUnpublished did server judged n bytes (Change (Publish at.0 n)) next
   unpublished server next mid judged n bytes at entry why allowed known stored cache published left is = record {
     at = at;
     allowed = allowed;
@@ -101,19 +101,20 @@ module _ {S D : Type 0} {disk : Ghosts D} (did : S → Call → S → Type 0) (f
     cache = cache;
     known = left_at (next.house ≡ mid) entry why is left ∙ known;
     published = subst (λ h. IsTrue (is_published h at.0 n)) known published;
+    missed_is = refl;
   }
 
   done_so : (server next : Server S D disk) (mid : Host) (judged : Judged) (n : ℕ) (bytes : List ℕ) (at : SiteName × Digest) (entry : Result (Option ℕ) Refusal) (result : Result Uploaded Refusal)
       → judged ≡ Ok at → mid ≡ with_upload server.house bytes
       → IsStored did server.house.uploads server.files.shelf bytes next.files.shelf → next.files.cache ≡ server.files.cache
       → Publishes entry next.house (publishing_if_ready mid at.0 n) → (IsStopped entry → IsTrue (is_published mid at.0 n)) → OnErr entry (next.house ≡ mid)
-      → ((entry ≡ Err reason.Device) × Breaks server next) ⊎ ((entry ≢ Err reason.Device) × GoesOn server next)
+      → ((entry ≡ Err reason.Device) × Breaks server (Change (Publish at.0 n)) next) ⊎ ((entry ≢ Err reason.Device) × GoesOn server next)
       → told_upload result ≡ told_of entry (λ published. told.Uploaded published at.1) → ((why : Refusal) → entry ≡ Err why → result ≡ Err why)
       → DoesUpload did failures server judged n bytes result next
   done_so server next mid judged n bytes at entry result allowed known stored cache done stops left (inl (is, broken)) says fails =
-      inr (inr (unpublished server next mid judged n bytes at entry reason.Device allowed known stored cache (stops (inr is)) left is, inr (fails reason.Device is, broken)))
+      inr (inr (Change (Publish at.0 n), unpublished server next mid judged n bytes at entry reason.Device allowed known stored cache (stops (inr is)) left is, inr (fails reason.Device is, broken)))
   done_so server next mid judged n bytes at entry result allowed known stored cache (inl (inl none)) stops left (inr (other, kept)) says fails =
-      inr (inr (unpublished server next mid judged n bytes at entry reason.OutOfMemory allowed known stored cache (stops (inl none)) left none, inl (fails reason.OutOfMemory none, kept)))
+      inr (inr (Change (Publish at.0 n), unpublished server next mid judged n bytes at entry reason.OutOfMemory allowed known stored cache (stops (inl none)) left none, inl (fails reason.OutOfMemory none, kept)))
   done_so server next mid judged n bytes at entry result allowed known stored cache (inl (inr is)) stops left (inr (other, kept)) says fails = absurd (other is)
   done_so server next mid judged n bytes at entry result allowed known stored cache (inr done) stops left (inr (other, kept)) says fails =
       let tell : Option ℕ → Told = λ published. told.Uploaded published at.1 in
@@ -134,11 +135,11 @@ module _ {S D : Type 0} {disk : Ghosts D} (did : S → Call → S → Type 0) (f
       → judged ≡ Ok at → mid ≡ with_upload server.house bytes
       → IsStored did server.house.uploads server.files.shelf bytes next.files.shelf → next.files.cache ≡ server.files.cache
       → Publishes entry next.house (publishing_if_ready mid at.0 n) → (IsStopped entry → IsTrue (is_published mid at.0 n)) → OnErr entry (next.house ≡ mid)
-      → IsJournaled disk entry mid server.journal next.house next.journal
+      → IsJournaled disk (Change (Publish at.0 n)) entry mid server.journal next.house next.journal
       → told_upload result ≡ told_of entry (λ published. told.Uploaded published at.1) → ((why : Refusal) → entry ≡ Err why → result ≡ Err why)
       → DoesUpload did failures server judged n bytes result next
   upload_done server next mid judged n bytes at entry result allowed known stored cache done stops left journaled says fails =
       let from : KeepsUp disk server.house server.journal mid server.journal = keeps_entries disk server.house mid server.journal server.journal (ap (λ (h : Host). h.entries) known) refl in
-      let same = journaled_then disk entry server.house mid next.house server.journal server.journal next.journal from journaled in
+      let same = journaled_then disk (Change (Publish at.0 n)) entry server.house mid next.house server.journal server.journal next.journal from journaled in
       done_so server next mid judged n bytes at entry result allowed known stored cache done stops left
-      (journaled_as disk entry server.house next.house server.journal next.journal same) says fails
+      (journaled_as disk (Change (Publish at.0 n)) entry server.house next.house server.journal next.journal same) says fails

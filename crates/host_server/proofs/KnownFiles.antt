@@ -19,6 +19,7 @@ use Rattle.chunk_group.specs.Cached.{AllCached, CachedShelf, HasCached}
 use Rattle.host_server.proofs.StoredIf.{IsStoredIf}
 use Rattle.host_server.proofs.StoredReads.{fault_cached, fault_stays, read_cached, read_stays}
 use Rattle.range_spec.specs.declared.selection.Choice.{Choice}
+use Rattle.site_change.specs.declared.entries.Entry.{Entry}
 use Rattle.http_wire.specs.Requests.{RequestParts}
 use Rattle.site_change.proofs.MoreUploads.{kept-with_file}
 use Rattle.host_api.specs.Types.{type_of}
@@ -226,17 +227,17 @@ module _ {S D : Type 0} {disk : Ghosts D} (did : S → Call → S → Type 0) (f
   reply_known server next parts body asking answer agrees known is =
       unmoved server next (uploads_of next.house is.0.host is.3 ∙ host_same server.house asking is.0 is.1) is.4 known
 
-  stops_known : (server next : Server S D disk) (body : List ℕ) (asking : Result Ask Refusal)
+  stops_known : (server next : Server S D disk) (body : List ℕ) (asking : Result Ask Refusal) (missed : Entry)
       → ((n : ℕ) (path : List ℕ) → asking ≡ Ok (ask.Upload n path) → AgreesWith server.house.uploads body) → HasKnown has server
-      → AskStops did server body asking next → HasKnown has next
-  stops_known server next body (Ok (ask.Upload n path)) agrees known left =
+      → AskStops did server body asking missed next → HasKnown has next
+  stops_known server next body (Ok (ask.Upload n path)) missed agrees known left =
       stored_over server next body (agrees n path refl) known left.stored left.cache (uploads_of next.house _ left.known)
-  stops_known server next body asking agrees known is = unmoved server next (stops_same server.house next.house asking is.0) is.1 known
+  stops_known server next body asking missed agrees known is = unmoved server next (stops_same server.house next.house asking missed is.0) is.1 known
 
   pub answered_known : (server next : Server S D disk) (parts : RequestParts) (body : List ℕ) (answer : Answer) → UploadAgrees server.house.uploads parts body → HasKnown has server
       → IsAnswer did failures server parts body answer next → HasKnown has next
   answered_known server next parts body answer agrees known (inl (inl (held, says, same), kept)) = as_it_was server next same known
   answered_known server next parts body answer agrees known (inl (inr (free, reply), kept)) = reply_known server next parts body (asked_for parts body) answer agrees known reply
   answered_known server next parts body answer agrees known (inr (inl (says, inl (same, takes), kept))) = as_it_was server next same known
-  answered_known server next parts body answer agrees known (inr (inl (says, inr (free, stops), kept))) = stops_known server next body (asked_for parts body) agrees known stops
-  answered_known server next parts body answer agrees known (inr (inr (says, stops, broken))) = stops_known server next body (asked_for parts body) agrees known stops
+  answered_known server next parts body answer agrees known (inr (inl (says, inr (free, missed, stops), kept))) = stops_known server next body (asked_for parts body) missed agrees known stops
+  answered_known server next parts body answer agrees known (inr (inr (says, missed, stops, broken))) = stops_known server next body (asked_for parts body) missed agrees known stops

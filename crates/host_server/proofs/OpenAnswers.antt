@@ -19,6 +19,7 @@ use Rattle.site_change.specs.declared.commands.Command.{Command}
 use Rattle.site_change.specs.declared.commands.Command.TheVariants.{Open, Publish}
 use Rattle.site_change.specs.declared.refusals.ChangeRefusal.{ChangeRefusal}
 use Rattle.change_undo.proofs.Runs.{guard, legal-runs, run-change}
+use Rattle.site_change.specs.declared.entries.Entry.{Entry}
 use Rattle.site_change.specs.declared.entries.Entry.TheVariants.{Change}
 use Rattle.http_wire.specs.Requests.{RequestParts}
 use Rattle.host_disk.specs.declared.disks.Disk.{Ghosts}
@@ -88,8 +89,8 @@ module _ {S D : Type 0} {disk : Ghosts D} (did : S → Call → S → Type 0) (f
   abbrev refusal : Option ChangeRefusal
   refusal = commit_refusal server.house opening
 
-  abbrev RunsOut : Type 0
-  RunsOut = HostStops server.house (Ok (ask.Command opening)) next.house
+  abbrev RunsOut : Entry → Type 0
+  RunsOut missed = HostStops server.house (Ok (ask.Command opening)) missed next.house
 
   -- what comes of it, where this list is told
   abbrev outcome : List Digest → Option ChangeRefusal → Outcome
@@ -117,7 +118,7 @@ module _ {S D : Type 0} {disk : Ghosts D} (did : S → Call → S → Type 0) (f
       let (required, missing) = missing_list server.house.uploads files.1 in
       comes_to required missing
       (not_entered server next answer RunsOut (outcome required refusal) (Change opening) refusal (refusal ≡ None) why
-      (refused_as required) (λ none house. inl (none, inl house)) (λ none house. (none, inl house)) is says)
+      (refused_as required) (λ none house. inl (Change opening, (none, inl (house, refl)))) (λ none house. (none, inl (house, refl))) is says)
 
   -- ---- the entry is made
 
@@ -189,8 +190,8 @@ module _ {S D : Type 0} {disk : Ghosts D} (did : S → Call → S → Type 0) (f
           sym (ap (λ (h : Host). is_published h site id) made ∙ ap (is_published (with_entry server.house (Change opening)) site) is)
           ∙ ap (λ b. b && is_none against) now ∙ ap is_none free
 
-      runs_out : against ≡ None → next.house ≡ mid.house → RunsOut
-      runs_out free house = (none, inr (house ∙ made, opens free))
+      runs_out : against ≡ None → next.house ≡ mid.house → RunsOut (Change publish)
+      runs_out free house = (none, inr (house ∙ made, opens free, ap (λ i. Some (Change (Publish site i))) (sym is)))
 
       abbrev comes_then : Outcome
       comes_then = published mid.house site id (opened id []) against
@@ -215,6 +216,7 @@ module _ {S D : Type 0} {disk : Ghosts D} (did : S → Call → S → Type 0) (f
       tried (Err stop.OutOfMemory) (free, (house, journal, files_same)) says =
           inr (inl (
             no_memory answer says,
+            Change publish,
             runs_out free house,
             files_same ∙ same,
             keeps_then disk server.house mid.house next.house server.journal mid.journal next.journal goes_on
@@ -223,9 +225,10 @@ module _ {S D : Type 0} {disk : Ghosts D} (did : S → Call → S → Type 0) (f
       tried (Err stop.Device) (free, house, put_in_vain, files_same) says =
           inr (inr (
             plainly reason.Device answer (λ e. cc e) says,
+            Change publish,
             runs_out free house,
             files_same ∙ same,
-            breaks_then disk server.house mid.house next.house server.journal mid.journal next.journal goes_on
+            breaks_then disk server.house mid.house next.house server.journal mid.journal next.journal (Change publish) goes_on
                 (breaks_at disk (Change publish) mid.house next.house mid.journal next.journal house put_in_vain),
           ))
 

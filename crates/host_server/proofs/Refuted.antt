@@ -65,10 +65,10 @@ module _ {S D : Type 0} {disk : Ghosts D} (did : S → Call → S → Type 0) (f
         elim (subst (λ (t : Told). Tells t answer) (ap (λ (o : Outcome). o.told) is) says) [ inl told ↦ inl told | inr none ↦ inr none.0 ],
       )
   refusal_is old new parts body answer why asks (inr (inl (says, inl (same, takes), kept))) = (ap (λ (s : Server S D disk). s.house) same, inr says)
-  refusal_is old new parts body answer why asks (inr (inl (says, inr (free, stops), kept))) =
-      absurd ((subst (λ (a : Result Ask Refusal). AskStops did old body a new) asks stops).0)
-  refusal_is old new parts body answer why asks (inr (inr (says, stops, broken))) =
-      absurd ((subst (λ (a : Result Ask Refusal). AskStops did old body a new) asks stops).0)
+  refusal_is old new parts body answer why asks (inr (inl (says, inr (free, missed, stops), kept))) =
+      absurd ((subst (λ (a : Result Ask Refusal). AskStops did old body a missed new) asks stops).0)
+  refusal_is old new parts body answer why asks (inr (inr (says, missed, stops, broken))) =
+      absurd ((subst (λ (a : Result Ask Refusal). AskStops did old body a missed new) asks stops).0)
 
 -- a file that is too large is not told as uploaded
 pub not_uploaded : {S : Type 0} (did : S → Call → S → Type 0) (host : Host) (n : ℕ) (bytes : List ℕ) (judged : Result (SiteName × Digest) Refusal) (uploads : Contents) (old new : S)

@@ -75,14 +75,14 @@ host_same host (Ok (ask.Read site version path)) out is = absurd is
 host_same host (Ok (ask.Upload n path)) out is = absurd is
 
 -- the same where there is no memory for an entry, or the journal's device fails
-pub stops_same : (host next : Host) (asking : Result Ask Refusal) → HostStops host asking next → next.uploads ≡ host.uploads
-stops_same host next (Err why) is = absurd is
-stops_same host next (Ok (ask.Command change)) (accepted, inl is) = uploads_of next host is
-stops_same host next (Ok (ask.Command change)) (accepted, inr (is, published)) = uploads_of next _ is
-stops_same host next (Ok (ask.Undo site k)) is = uploads_of next host is.0
-stops_same host next (Ok (ask.Changes site)) is = absurd is
-stops_same host next (Ok (ask.Deploy n)) is = absurd is
-stops_same host next (Ok (ask.RemoveDeploy n)) is = uploads_of next host is.0
-stops_same host next (Ok (ask.Cancel n)) is = uploads_of next host is.0
-stops_same host next (Ok (ask.Read site version path)) is = absurd is
-stops_same host next (Ok (ask.Upload n path)) is = absurd is
+pub stops_same : (host next : Host) (asking : Result Ask Refusal) (missed : Entry) → HostStops host asking missed next → next.uploads ≡ host.uploads
+stops_same host next (Err why) missed is = absurd is
+stops_same host next (Ok (ask.Command change)) missed (accepted, inl (is, alone)) = uploads_of next host is
+stops_same host next (Ok (ask.Command change)) missed (accepted, inr (is, published, publishing)) = uploads_of next _ is
+stops_same host next (Ok (ask.Undo site k)) missed is = uploads_of next host is.0
+stops_same host next (Ok (ask.Changes site)) missed is = absurd is
+stops_same host next (Ok (ask.Deploy n)) missed is = absurd is
+stops_same host next (Ok (ask.RemoveDeploy n)) missed is = uploads_of next host is.0
+stops_same host next (Ok (ask.Cancel n)) missed is = uploads_of next host is.0
+stops_same host next (Ok (ask.Read site version path)) missed is = absurd is
+stops_same host next (Ok (ask.Upload n path)) missed is = absurd is

@@ -9,6 +9,7 @@ use Rattle.site_state.specs.declared.values.Draft.{Draft}
 use Rattle.site_state.proofs.MissingLists.{missing_list}
 use Rattle.site_change.specs.declared.commands.Command.TheVariants as command
 use Rattle.site_change.specs.declared.refusals.ChangeRefusal.TheVariants.{NoSuchDeploy}
+use Rattle.site_change.specs.declared.entries.Entry.{Entry}
 use Rattle.change_undo.specs.Histories.{entry_at}
 use Rattle.http_wire.specs.Requests.{RequestParts}
 use Rattle.host_disk.specs.declared.disks.Disk.{Ghosts}
@@ -116,15 +117,15 @@ module _ {S D : Type 0} {disk : Ghosts D} (did : S → Call → S → Type 0) (f
   does_by (ask.RemoveDeploy n) lawful digested is =
       deploy_told did failures server next parts body answer n (ask.RemoveDeploy n) (λ site. command.RemoveDeploy site n) (site_of_deploy (entry_at server.house.entries n)) refl refl
       (λ owner. refl)
-      (carried_out did failures server next parts body answer (Ok (ask.RemoveDeploy n)) (DeployStops server.house n (λ site. command.RemoveDeploy site n) next.house)
+      (carried_out did failures server next parts body answer (Ok (ask.RemoveDeploy n)) (λ (missed : Entry). DeployStops server.house n (λ site. command.RemoveDeploy site n) missed next.house)
       (deploy_outcome server.house n (λ site. command.RemoveDeploy site n))
-      (λ says house files. (deploy_outcome server.house n (λ site. command.RemoveDeploy site n), refl, says, house, files)) (λ left files. (left, files))) is
+      (λ says house files. (deploy_outcome server.house n (λ site. command.RemoveDeploy site n), refl, says, house, files)) (λ missed left files. (left, files))) is
   does_by (ask.Cancel n) lawful digested is =
       deploy_told did failures server next parts body answer n (ask.Cancel n) (λ site. command.Cancel site n) (site_of_deploy (entry_at server.house.entries n)) refl refl
       (λ owner. refl)
-      (carried_out did failures server next parts body answer (Ok (ask.Cancel n)) (DeployStops server.house n (λ site. command.Cancel site n) next.house)
+      (carried_out did failures server next parts body answer (Ok (ask.Cancel n)) (λ (missed : Entry). DeployStops server.house n (λ site. command.Cancel site n) missed next.house)
       (deploy_outcome server.house n (λ site. command.Cancel site n))
-      (λ says house files. (deploy_outcome server.house n (λ site. command.Cancel site n), refl, says, house, files)) (λ left files. (left, files))) is
+      (λ says house files. (deploy_outcome server.house n (λ site. command.Cancel site n), refl, says, house, files)) (λ missed left files. (left, files))) is
   does_by (ask.Upload n path) lawful digested is =
       upload_by did failures server next parts n path body answer (site_of_deploy (entry_at server.house.entries n)) refl is
 
@@ -137,8 +138,8 @@ module _ {S D : Type 0} {disk : Ghosts D} (did : S → Call → S → Type 0) (f
   of_asked : AnswersAsk did failures server next parts body answer (asked_for parts body) → IsAnswer did failures server parts body answer next
   of_asked (inl (held, says, same)) = inl (inl (held, says, same), goes_on same)
   of_asked (inr (free, inl (reply, kept))) = inl (inr (free, reply), kept)
-  of_asked (inr (free, inr (inl (says, stops, kept)))) = inr (inl (says, inr (free, stops), kept))
-  of_asked (inr (free, inr (inr (says, stops, broken)))) = inr (inr (says, stops, broken))
+  of_asked (inr (free, inr (inl (says, missed, stops, kept)))) = inr (inl (says, inr (free, missed, stops), kept))
+  of_asked (inr (free, inr (inr (says, missed, stops, broken)))) = inr (inr (says, missed, stops, broken))
 
 module _ {S D : Type 0} {disk : Ghosts D} (did : S → Call → S → Type 0) (failures : S → ℕ) (old new : Server S D disk) (parts : RequestParts) (body : List ℕ) (answer : Answer) where
   carried_by : (asking : Result Ask Refusal) → CarriesOutBy (calls_of did failures) (gave_at did failures) (failed_at did failures) old parts body asking answer new

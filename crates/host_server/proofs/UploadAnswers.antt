@@ -51,9 +51,10 @@ module _ {S D : Type 0} {disk : Ghosts D} (did : S → Call → S → Type 0) (f
   does_tell result (inl (is, kept)) says = inl (inl (told_upload result, is, says), kept)
   does_tell result (inr (inl (why, refused, is, kept))) says =
       inl (inr (why, refused, store_tells why (tells_as result (Err (refusal_of_upload why)) is says)), kept)
-  does_tell result (inr (inr (left, inl (is, kept)))) says = inr (inl (no_memory answer (tells_as result (Err reason.OutOfMemory) is says), left, kept))
-  does_tell result (inr (inr (left, inr (is, broken)))) says =
-      inr (inr (plainly reason.Device answer (λ e. cc e) (tells_as result (Err reason.Device) is says), left, broken))
+  does_tell result (inr (inr (missed, left, inl (is, kept)))) says =
+      inr (inl (no_memory answer (tells_as result (Err reason.OutOfMemory) is says), missed, left, kept))
+  does_tell result (inr (inr (missed, left, inr (is, broken)))) says =
+      inr (inr (plainly reason.Device answer (λ e. cc e) (tells_as result (Err reason.Device) is says), missed, left, broken))
 
   -- no entry opened the deploy
   no_deploy : (judgment : Judged) → judgment ≡ Err (reason.Change NoSuchDeploy) → next ≡ server

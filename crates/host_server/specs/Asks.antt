@@ -5,6 +5,7 @@ use Rattle.http_wire.specs.Requests.{RequestParts}
 use Rattle.host_names.specs.declared.names.SiteName.{SiteName}
 use Rattle.site_change.specs.declared.commands.Command.{Command}
 use Rattle.site_change.specs.declared.commands.Command.TheVariants.{Cancel, RemoveDeploy}
+use Rattle.site_change.specs.declared.entries.Entry.{Entry}
 use Rattle.site_change.specs.declared.entries.Entry.TheVariants.{Change, Undo}
 use Rattle.change_undo.specs.Histories.{entry_at}
 use Rattle.host_api.specs.declared.bodies.Ask.{Ask}
@@ -19,7 +20,7 @@ use Rattle.host_answers.specs.ChangeLists.{shown_lines}
 use Rattle.host_server.specs.Files.{IsReadReply}
 use Rattle.host_server.specs.HeldUp.{holds_up}
 use Rattle.host_server.specs.Hosts.{Host, state_of, with_entry}
-use Rattle.host_server.specs.PublishedDeploys.{opens_published}
+use Rattle.host_server.specs.PublishedDeploys.{opens_published, publishing_of}
 use Rattle.host_server.specs.Outcomes.{IsCommitted, Outcome, deploy_outcome, entering, judge_upload, refused, unless_refused}
 use Rattle.host_server.specs.Reasons.{commit_refusal, undo_refusal}
 use Rattle.host_replies.specs.Replies.{Answer, Tells, refused_answer}
@@ -45,22 +46,25 @@ ComesOf host (Ok (ask.RemoveDeploy deploy)) out = out ≡ deploy_outcome host de
 ComesOf host (Ok (ask.Cancel deploy)) out = out ≡ deploy_outcome host deploy (λ site. Cancel site deploy)
 ComesOf host asking out = ⊥
 
--- A command on the deploy of this number isn't put into the journal, though an entry opened the deploy and nothing refuses the command in its site.
--- The host stays as it was.
-abbrev pub DeployStops : Host → ℕ → (SiteName → Command) → Host → Type 0
-DeployStops host n command next =
+-- A command on the deploy of this number, this entry, isn't put into the journal, though an entry opened the deploy and nothing refuses the command
+-- in its site. The host stays as it was.
+abbrev pub DeployStops : Host → ℕ → (SiteName → Command) → Entry → Host → Type 0
+DeployStops host n command missed next =
     (next ≡ host) × (site : SiteName) × (site_of_deploy (entry_at host.entries n) ≡ Some site) × (commit_refusal host (command site) ≡ None)
+    × (missed ≡ Change (command site))
 
--- Nothing refuses what is asked for, but an entry of it isn't put: there is no memory for it, or the device fails while it is put into the journal.
+-- Nothing refuses what is asked for, but this entry of it isn't put: there is no memory for it, or the device fails while it is put into the journal.
 -- The host stays as it was; or it has opened a deploy, and doesn't get the entry that would publish the deploy.
-abbrev pub HostStops : Host → Result Ask Refusal → Host → Type 0
-HostStops host (Ok (ask.Command command)) next =
+abbrev pub HostStops : Host → Result Ask Refusal → Entry → Host → Type 0
+HostStops host (Ok (ask.Command command)) missed next =
     (commit_refusal host command ≡ None)
-    × ((next ≡ host) ⊎ ((next ≡ with_entry host (Change command)) × IsTrue (opens_published host command)))
-HostStops host (Ok (ask.Undo site change)) next = (next ≡ host) × (undo_refusal host site change ≡ None)
-HostStops host (Ok (ask.RemoveDeploy deploy)) next = DeployStops host deploy (λ site. RemoveDeploy site deploy) next
-HostStops host (Ok (ask.Cancel deploy)) next = DeployStops host deploy (λ site. Cancel site deploy) next
-HostStops host asking next = ⊥
+    × (((next ≡ host) × (missed ≡ Change command))
+    ⊎ ((next ≡ with_entry host (Change command)) × IsTrue (opens_published host command) × (publishing_of host command ≡ Some missed)))
+HostStops host (Ok (ask.Undo site change)) missed next =
+    (next ≡ host) × (undo_refusal host site change ≡ None) × (missed ≡ Undo site change)
+HostStops host (Ok (ask.RemoveDeploy deploy)) missed next = DeployStops host deploy (λ site. RemoveDeploy site deploy) missed next
+HostStops host (Ok (ask.Cancel deploy)) missed next = DeployStops host deploy (λ site. Cancel site deploy) missed next
+HostStops host asking missed next = ⊥
 
 -- ---- with them
 
@@ -74,10 +78,10 @@ IsReplyToAsk did failures server parts body asking answer next =
     (out : Outcome) × ComesOf server.house asking out × Tells out.told answer × (next.house ≡ out.host) × (next.files ≡ server.files)
 
 -- The same of a server. An upload whose deploy isn't published for this reason keeps its bytes.
-abbrev pub AskStops : {S D : Type 0} {disk : Ghosts D} → (did : S → Call → S → Type 0) → Server S D disk → List ℕ → Result Ask Refusal → Server S D disk → Type 0
-AskStops did server body (Ok (ask.Upload deploy path)) next =
-    IsUnpublished did server (judge_upload server.house deploy path body) deploy body next
-AskStops did server body asking next = HostStops server.house asking next.house × (next.files ≡ server.files)
+abbrev pub AskStops : {S D : Type 0} {disk : Ghosts D} → (did : S → Call → S → Type 0) → Server S D disk → List ℕ → Result Ask Refusal → Entry → Server S D disk → Type 0
+AskStops did server body (Ok (ask.Upload deploy path)) missed next =
+    IsUnpublished did server (judge_upload server.house deploy path body) deploy body missed next
+AskStops did server body asking missed next = HostStops server.house asking missed next.house × (next.files ≡ server.files)
 
 -- ---- a request
 
@@ -92,12 +96,13 @@ IsReply did failures server parts body answer next =
 abbrev pub RunsOut : {S D : Type 0} {disk : Ghosts D} → (did : S → Call → S → Type 0) → Server S D disk → RequestParts → List ℕ → Server S D disk → Type 0
 RunsOut did server parts body next =
     ((next ≡ server) × IsTrue (asking_takes parts body))
-    ⊎ ((holds_up server (asked_for parts body) ≡ false) × AskStops did server body (asked_for parts body) next)
+    ⊎ ((holds_up server (asked_for parts body) ≡ false) × (missed : Entry) × AskStops did server body (asked_for parts body) missed next)
 
 -- The answer to a request, and what the server has then: the reply to it, or that there is no memory, and the journal then has what the host
--- got; or that the device failed while an entry was put into the journal.
+-- got; or that the device failed while the entry was put into the journal that wasn't made.
 abbrev pub IsAnswer : {S D : Type 0} {disk : Ghosts D} → (did : S → Call → S → Type 0) → (failures : S → ℕ) → Server S D disk → RequestParts → List ℕ → Answer → Server S D disk → Type 0
 IsAnswer did failures server parts body answer next =
     (IsReply did failures server parts body answer next × GoesOn server next)
     ⊎ ((answer ≡ refused_answer reason.OutOfMemory) × RunsOut did server parts body next × GoesOn server next)
-    ⊎ ((answer ≡ refused_answer reason.Device) × AskStops did server body (asked_for parts body) next × Breaks server next)
+    ⊎ ((answer ≡ refused_answer reason.Device) × (missed : Entry) × AskStops did server body (asked_for parts body) missed next
+    × Breaks server missed next)

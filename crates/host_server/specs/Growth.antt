@@ -94,7 +94,7 @@ module _ {S D : Type 0} {disk : Ghosts D} (did : S → Call → S → Type 0) (f
       → DoesUpload did failures old judged n bytes done new → Grows old.house new.house
   upload_grows old judged n bytes done new (inl (is, kept)) = subst (Grows old.house) (sym is.host_is) (uploaded_grows old.house n bytes judged)
   upload_grows old judged n bytes done new (inr (inl (why, refused, is, kept))) = grows_same old.house new.house refused.same
-  upload_grows old judged n bytes done new (inr (inr (left, stops))) = grows_upload old.house new.house bytes left.known
+  upload_grows old judged n bytes done new (inr (inr (missed, left, stops))) = grows_upload old.house new.house bytes left.known
 
   same_grows : (old new : Server S D disk) → new ≡ old → Grows old.house new.house
   same_grows old new is = grows_same old.house new.house (ap (λ (s : Server S D disk). s.house) is)

@@ -49,17 +49,16 @@ pub record KeepsUp {D : Type 0} (disk : Ghosts D) (old : Host) (journal : Option
   pub longer : new.entries ≡ logs.with_entries old.entries more
   pub put : Puts disk journal more next
 
--- they were, and then the device failed while one more was put, which the host didn't get
-pub record BreaksOff {D : Type 0} (disk : Ghosts D) (old : Host) (journal : Option (Keeps D)) (new : Host) (next : Option (Keeps D)) : Type 0 where
+-- they were, and then the device failed while this one was put, which the host didn't get
+pub record BreaksOff {D : Type 0} (disk : Ghosts D) (old : Host) (journal : Option (Keeps D)) (missed : Entry) (new : Host) (next : Option (Keeps D)) : Type 0 where
   pub more : List Entry
   pub longer : new.entries ≡ logs.with_entries old.entries more
-  pub missed : Entry
   pub put : PutsInPart disk journal more missed next
 
--- where a call of the host answers so, a failure of the device is that of its journal
-abbrev pub IsJournaled : {A D : Type 0} → (disk : Ghosts D) → Result A Refusal → Host → Option (Keeps D) → Host → Option (Keeps D) → Type 0
-IsJournaled disk (Err reason.Device) old journal new next = BreaksOff disk old journal new next
-IsJournaled disk result old journal new next = KeepsUp disk old journal new next
+-- where a call of the host that makes no other entry than this one answers so, a failure of the device is that of its journal in the put of it
+abbrev pub IsJournaled : {A D : Type 0} → (disk : Ghosts D) → Entry → Result A Refusal → Host → Option (Keeps D) → Host → Option (Keeps D) → Type 0
+IsJournaled disk entry (Err reason.Device) old journal new next = BreaksOff disk old journal entry new next
+IsJournaled disk entry result old journal new next = KeepsUp disk old journal new next
 
 -- there was no memory, or the device of the journal failed
 abbrev pub IsStopped : {A : Type 0} → Result A Refusal → Type 0

@@ -9,6 +9,9 @@ use Rattle.blob_store.specs.Calls.{Call, PutsFile}
 use Rattle.blob_store.specs.Faults.{HasPutSome}
 use Rattle.blob_store.specs.declared.blobs.UploadFault.{UploadFault}
 use Rattle.blob_store.specs.declared.blobs.UploadFault.TheVariants as fault
+use Rattle.site_change.specs.declared.commands.Command.TheVariants.{Publish}
+use Rattle.site_change.specs.declared.entries.Entry.{Entry}
+use Rattle.site_change.specs.declared.entries.Entry.TheVariants.{Change}
 use Rattle.host_api.specs.declared.refusals.Refusal.{Refusal}
 use Rattle.host_api.specs.declared.refusals.Refusal.TheVariants as reason
 use Rattle.host_api.specs.declared.texts.Told.{Told}
@@ -61,28 +64,29 @@ pub record IsRefusedByStore {S D : Type 0} {disk : Ghosts D} (did : S → Call �
   pub cache : next.files.cache ≡ server.files.cache
   pub same : next.house ≡ server.house
 
--- the bytes are stored and known, and the entry that publishes the deploy that they complete is not made
-pub record IsUnpublished {S D : Type 0} {disk : Ghosts D} (did : S → Call → S → Type 0) (server : Server S D disk) (judged : Result (SiteName × Digest) Refusal) (n : ℕ) (bytes : List ℕ) (next : Server S D disk) : Type 0 where
+-- the bytes are stored and known, and this entry, which publishes the deploy that they complete, is not made
+pub record IsUnpublished {S D : Type 0} {disk : Ghosts D} (did : S → Call → S → Type 0) (server : Server S D disk) (judged : Result (SiteName × Digest) Refusal) (n : ℕ) (bytes : List ℕ) (missed : Entry) (next : Server S D disk) : Type 0 where
   pub at : SiteName × Digest
   pub allowed : judged ≡ Ok at
   pub stored : IsStored did server.house.uploads server.files.shelf bytes next.files.shelf
   pub cache : next.files.cache ≡ server.files.cache
   pub known : next.house ≡ with_upload server.house bytes
   pub published : IsTrue (is_published (with_upload server.house bytes) at.0 n)
+  pub missed_is : missed ≡ Change (Publish at.0 n)
 
 -- ---- the call
 
 -- there was no memory for that entry, or the journal's device failed while it was put
-abbrev pub StopsPublishing : {S D : Type 0} {disk : Ghosts D} → Server S D disk → Result Uploaded Refusal → Server S D disk → Type 0
-StopsPublishing server done next =
-    ((done ≡ Err reason.OutOfMemory) × GoesOn server next) ⊎ ((done ≡ Err reason.Device) × Breaks server next)
+abbrev pub StopsPublishing : {S D : Type 0} {disk : Ghosts D} → Server S D disk → Entry → Result Uploaded Refusal → Server S D disk → Type 0
+StopsPublishing server missed done next =
+    ((done ≡ Err reason.OutOfMemory) × GoesOn server next) ⊎ ((done ≡ Err reason.Device) × Breaks server missed next)
 
 -- bytes, of which this was judged, are taken for the deploy of a number, or it is told why not
 abbrev pub DoesUpload : {S D : Type 0} {disk : Ghosts D} → (did : S → Call → S → Type 0) → (failures : S → ℕ) → Server S D disk → Result (SiteName × Digest) Refusal → ℕ → List ℕ → Result Uploaded Refusal → Server S D disk → Type 0
 DoesUpload did failures server judged n bytes done next =
     (IsUploaded did server judged n bytes (told_upload done) next × GoesOn server next)
     ⊎ ((why : UploadFault) × IsRefusedByStore did failures server judged bytes why next × (done ≡ Err (refusal_of_upload why)) × GoesOn server next)
-    ⊎ (IsUnpublished did server judged n bytes next × StopsPublishing server done next)
+    ⊎ ((missed : Entry) × IsUnpublished did server judged n bytes missed next × StopsPublishing server missed done next)
 
 -- ---- the reply
 

@@ -64,4 +64,4 @@ module _ {S D : Type 0} {disk : Ghosts D} (did : S → Call → S → Type 0) (f
   withheld_to_head body answer (inl (inl (held, says, same), kept)) withheld = absurd (whole answer _ says refl withheld)
   withheld_to_head body answer (inl (inr (free, reply), kept)) withheld = reply_told body (asked_for parts body) answer reply withheld
   withheld_to_head body answer (inr (inl (says, out, kept))) withheld = absurd (whole answer _ says refl withheld)
-  withheld_to_head body answer (inr (inr (says, stops, broken))) withheld = absurd (whole answer _ says refl withheld)
+  withheld_to_head body answer (inr (inr (says, missed, stops, broken))) withheld = absurd (whole answer _ says refl withheld)

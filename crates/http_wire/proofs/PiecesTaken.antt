@@ -1,10 +1,11 @@
 -- Three pieces that are taken: gathered, or written from one of them on.
-use Rattle.std.proofs.Common.{◌≡◌, ℕ, ◌-◌, List, [], ◌++◌, length, length-append, drop, Result, Ok, sym, ap, subst, ◌∙◌, append-nil, arith}
-use Rattle.byte_slices.proofs.Joined.{drop_over}
+use Rattle.std.proofs.Common.{◌≡◌, ℕ, ◌-◌, List, [], ◌++◌, length, length-append, drop, Result, Ok, OnOk, sym, ap, subst, ◌∙◌, append-nil, arith}
+use Rattle.byte_slices.proofs.Joined.{drop_four, drop_over}
 use Rattle.http_wire.specs.declared.halts.Halt.{Halt}
 use Rattle.http_wire.specs.declared.sinks.WriteFailed.{WriteFailed}
 use Rattle.http_wire.specs.Gathering.{Gathered, WritesOn, Puts}
 use Rattle.http_wire.specs.Timing.{Event, NoRead, Ran}
+use Rattle.http_wire.proofs.SlicesSent.{as_pieces}
 use Rattle.http_wire.proofs.Writes.{and_then, gathered, on_ok}
 
 -- what writes begin with
@@ -75,5 +76,37 @@ put_passed saw old new result first second third one two three o l m n k is_one 
         writes = subst (λ t. WritesOn result t o.sent k.sent o.rest k.rest start.events) all start.claimed;
         passed = on_ok result (k.passed ≡ o.passed - length (first ++ (second ++ third)))
             (omega (arith, same, passed_one, passed_two, passed_three, length-append first (second ++ third), length-append second third));
+      };
+    }
+
+-- what is put of four pieces after what was gathered: o before, f behind the flush, and l, m, n, j behind each of them
+pub put_lent : {S : Type 0} (saw : S → Event → S → Type 0) (old mid new : S) (result : Result (Unit {0}) (Halt WriteFailed)) (first second third fourth one two three four left : List ℕ)
+    (o f l m n j k : Gathered) → Ran saw NoRead old mid (WritesOn (Ok tt) [] o.sent f.sent o.rest f.rest) → f.rest ≡ [] → f.passed ≡ o.passed
+    → one ≡ drop f.passed first → two ≡ drop l.passed second → three ≡ drop m.passed third → four ≡ drop n.passed fourth
+    → l.passed ≡ f.passed - length first → m.passed ≡ l.passed - length second → n.passed ≡ m.passed - length third → j.passed ≡ n.passed - length fourth
+    → j.sent ≡ f.sent → k.passed ≡ j.passed → k.rest ≡ [] → Ran saw NoRead mid new (WritesOn result [] j.sent k.sent (one ++ (two ++ (three ++ four))) left) → OnOk result (left ≡ [])
+    → Ran saw NoRead old new (Puts result (first ++ (second ++ (third ++ fourth))) o k)
+put_lent saw old mid new result first second third fourth one two three four left o f l m n j k flushed none same is_one is_two is_three is_four
+    passed_one passed_two passed_three passed_four sent kept rest ran done =
+    let text = one ++ (two ++ (three ++ four)) in
+    let whole = first ++ (second ++ (third ++ fourth)) in
+    let alone = begins_as saw mid new result text j.sent f.sent k.sent [] f.rest [] sent (sym none) (as_pieces saw mid new result text j.sent k.sent [] [] left done ran) in
+    let lent = subst (λ r. Ran saw NoRead mid new (WritesOn result text f.sent k.sent f.rest r)) (sym rest) alone in
+    let all = and_then saw old mid new result [] text o.sent f.sent k.sent o.rest f.rest k.rest flushed lent in
+    let is : text ≡ drop o.passed whole =
+    ap (λ u. u ++ (two ++ (three ++ four))) is_one
+    ∙ ap (λ u. drop f.passed first ++ (u ++ (three ++ four))) is_two
+    ∙ ap (λ u. drop f.passed first ++ (drop l.passed second ++ (u ++ four))) is_three
+    ∙ ap (λ u. drop f.passed first ++ (drop l.passed second ++ (drop m.passed third ++ u))) is_four
+    ∙ drop_four f.passed l.passed m.passed n.passed first second third fourth passed_one passed_two passed_three
+    ∙ ap (λ i. drop i whole) same in
+    record {
+      events = all.events;
+      steps = all.steps;
+      timely = all.timely;
+      claimed = record {
+        writes = subst (λ t. WritesOn result t o.sent k.sent o.rest k.rest all.events) is all.claimed;
+        passed = on_ok result (k.passed ≡ o.passed - length whole)
+            (omega (arith, same, kept, passed_one, passed_two, passed_three, passed_four, length-append first (second ++ (third ++ fourth)), length-append second (third ++ fourth), length-append third fourth));
       };
     }

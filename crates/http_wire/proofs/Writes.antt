@@ -250,6 +250,13 @@ puts_cut saw old new why first second o n one =
       };
     }
 
+-- a flush that is cut, before a text of which nothing is put
+pub puts_cut_at_flush : {S : Type 0} (saw : S → Event → S → Type 0) (old new : S) (why : Halt WriteFailed) (text : List ℕ) (o n : Gathered)
+    → Ran saw NoRead old new (WritesOn (Err why) [] o.sent n.sent o.rest n.rest) → Ran saw NoRead old new (Puts (Err why) text o n)
+puts_cut_at_flush saw old new why text o n flushed =
+    let ran = cut_before saw old new why [] (drop o.passed text) o.sent n.sent o.rest n.rest flushed in
+    record { events = ran.events; steps = ran.steps; timely = ran.timely; claimed = record { writes = ran.claimed; passed = tt } }
+
 -- the last flush
 pub puts_flushed : {S : Type 0} (saw : S → Event → S → Type 0) (old mid new : S) (result : Result (Unit {0}) (Halt WriteFailed)) (text : List ℕ) (o m n : Gathered)
     → Ran saw NoRead old mid (Puts (Ok tt) text o m) → n.passed ≡ m.passed → Ran saw NoRead mid new (WritesOn result [] m.sent n.sent m.rest n.rest)

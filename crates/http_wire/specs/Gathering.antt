@@ -44,11 +44,6 @@ SendsOn saw now new result text out new_out = (at : ℕ) → IsAmid text at out 
 
 -- ---- what private functions say
 
--- the bytes of a part, if there is one
-abbrev pub text_if : {A : Type 0} → (text : A → List ℕ) → Option A → List ℕ
-text_if text None = []
-text_if text (Some part) = text part
-
 -- so many bytes of the text are written, and the rest is not
 abbrev pub Written : (written text : List ℕ) → (count : ℕ) → (rest : List ℕ) → Type 0
 Written written text count rest = Sent (Some []) (Some written) text count rest

@@ -4,6 +4,7 @@
 mod answer_heads;
 mod answers;
 mod bodies;
+mod body_sends;
 mod buffers;
 mod connections;
 mod duplexes;

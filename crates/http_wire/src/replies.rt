@@ -8,13 +8,14 @@ ghost use Rattle.http_wire.specs.Gathering.{IsCounted, Puts, SendsOn};
 ghost use Rattle.http_wire.specs.Sending.{SentFront, WritesText};
 ghost use Rattle.http_wire.specs.Timing.{Event, NoRead, Ran, Steps};
 
+use crate::body_sends::put_parts;
 use crate::duplexes::{Duplex, Steady};
 use crate::entity_tags::EntityTag;
 use crate::faults::WriteFault;
 use crate::field_texts::FieldText;
 use crate::halts::Halt;
 use crate::reply_heads::put_head;
-use crate::sends::{Outgoing, put_parts};
+use crate::sends::Outgoing;
 use crate::sinks::WriteFailed;
 use arrayvec::ArrayString;
 use byte_view::BodyParts;

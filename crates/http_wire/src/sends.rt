@@ -1,7 +1,7 @@
 //! Gathers texts and writes them.
 ghost use Rattle.std.specs.Prelude.{◌≡◌, ◌≤◌, ◌↔◌, ℕ, IsTrue, ◌-◌, [], ◌++◌, drop, length, IfOk, IsErrOf, MatchBool, OnOk};
-ghost use Rattle.std.specs.List.{concat, flat_map};
-ghost use Rattle.http_wire.specs.Gathering.{from_front, IsCounted, nothing, Puts, text_if, WritesOn};
+ghost use Rattle.std.specs.List.{flat_map};
+ghost use Rattle.http_wire.specs.Gathering.{from_front, IsCounted, nothing, Puts, WritesOn};
 ghost use Rattle.byte_slices.specs.Slices.{joined};
 ghost use Rattle.http_wire.specs.Timing.{NoRead, Ran};
 
@@ -9,12 +9,11 @@ use crate::duplexes::Duplex;
 use crate::halts::Halt;
 use crate::sinks::WriteFailed;
 use byte_slices::Slices;
-use byte_view::BodyParts;
 use std::alloc::{AllocError, Global};
 use std::marker::Model;
 
 // How many bytes are gathered before they are written, so that a small reply is one write.
-const ROOM: usize = 8192;
+pub(crate) const ROOM: usize = 8192;
 
 /// A buffer that gathers a text before it is written, and the progress of that text. A connection allocates the buffer once and lends
 /// it to each call that writes. If a write has to wait, the gathered bytes stay, and the next call for the same text goes on after them.
@@ -201,6 +200,37 @@ impl Outgoing {
         Ok(())
     }
 
+    // Puts four more pieces, without the bytes that were already taken. If the last one has bytes, none of them is gathered: they go out together, after
+    // what is.
+    pub(crate) fn put_four<D: Duplex>(
+        &mut self,
+        duplex: &mut D,
+        first: &[u8],
+        second: &[u8],
+        third: &[u8],
+        fourth: &[u8],
+    ) -> Result<(), Halt<WriteFailed>>
+        ensures ran { Ran D.saw NoRead duplex.old duplex.new
+            (Puts result (first.now ++ (second.now ++ (third.now ++ fourth.now))) self.old self.new) }
+        ensures waits { IsErrOf result Halt.WouldWait → D.waits duplex.new }
+    {
+        if fourth.is_empty() {
+            return self.put_three(duplex, first, second, third);
+        }
+        self.flush(duplex)?;
+        let first = self.behind(first);
+        let second = self.behind(second);
+        let third = self.behind(third);
+        let fourth = self.behind(fourth);
+        let mut slices = Slices {
+            first,
+            second,
+            third,
+            fourth,
+        };
+        send_slices(duplex, &mut self.sent, &mut slices)
+    }
+
     // Puts one more piece.
     pub(crate) fn put<D: Duplex>(
         &mut self,
@@ -230,43 +260,6 @@ pub fn put_pieces<D: Duplex>(
 {
     for piece in pieces {
         out.put(duplex, piece)?;
-    }
-    Ok(())
-}
-
-// Returns the bytes of a part, or no bytes if there is no part.
-fn bytes_of<P: BodyParts>(part: &Option<P::Item>) -> &[u8]
-    ensures { result.now ≡ text_if P.text part.now }
-{
-    match part {
-        Some(part) => P::bytes(part),
-        None => &[],
-    }
-}
-
-/// Puts the parts of a body in order, each from where it lies in memory. Puts three at once, so that they go out with the gathered bytes.
-/// The last part that has bytes is put alone, so a body of one part is asked for no other.
-pub fn put_parts<D: Duplex, P: BodyParts<Item: Drop> + Drop>(
-    duplex: &mut D,
-    out: &mut Outgoing,
-    parts: P,
-) -> Result<(), Halt<WriteFailed>>
-    ensures ran { Ran D.saw NoRead duplex.old duplex.new (Puts result (concat (P.texts parts)) out.old out.new) }
-    ensures waits { IsErrOf result Halt.WouldWait → D.waits duplex.new }
-{
-    let mut parts = parts;
-    'parts: while let Some(first) = parts.next() {
-        if parts.length() == 0 {
-            return out.put(duplex, P::bytes(&first));
-        }
-        let second = parts.next();
-        let third = parts.next();
-        out.put_three(
-            duplex,
-            P::bytes(&first),
-            bytes_of::<P>(&second),
-            bytes_of::<P>(&third),
-        )?;
     }
     Ok(())
 }

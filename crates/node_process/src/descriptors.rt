@@ -1,6 +1,7 @@
 //! How many connections the limit of descriptors leaves room for, and who gives one if none is left.
 ghost use Rattle.std.specs.Prelude.{◌≤◌, IfSome};
 
+use crate::repeating::{OnceAccess, get_once, put_once, repeated};
 use crate::stopping::Stop;
 use blob_store::{AbsenceReceipt, AccessFault, Files, Found, PutReceipt, ShelfAccess, ShelfName};
 use std::sync::{Mutex, Wait};
@@ -37,30 +38,27 @@ pub fn places_of(limit: u64, nodes: u64, workers: u64) -> Option<usize>
 /// Reaches the files of a shelf. If there is no descriptor for a file, a connection that is to go first gives its own, and the call is made again.
 #[derive(Drop)]
 pub struct GivingAccess<'a, Q> {
-    access: &'a Q,
+    calls: OnceAccess<'a, Q>,
     stop: &'a Stop,
 }
 
 impl<'a, Q> GivingAccess<'a, Q> {
     /// Reaches them this way, for threads that the nodes oversee by this.
     pub fn new(access: &'a Q, stop: &'a Stop) -> GivingAccess<'a, Q> {
-        GivingAccess { access, stop }
-    }
-
-    /// Whether a call is to be made again.
-    fn gives<T, W: Wait>(&self, rt: &W, outcome: &Result<T, AccessFault>) -> bool {
-        matches!(outcome, Err(AccessFault::NoDescriptor)) && self.stop.asks(rt)
+        GivingAccess {
+            calls: OnceAccess::new(access),
+            stop,
+        }
     }
 }
-
-/// How often a call is made again at most. What one connection gives another thread may take first.
-const MOST_TRIES: u32 = 8;
 
 impl<S, Q: ShelfAccess<S, U, N>, U: PutReceipt + Drop, N: AbsenceReceipt + Drop> ShelfAccess<
     S,
     U,
     N,
 > for GivingAccess<'_, Q> {
+    ghost failed = { Q.failed };
+
     fn put<W: Wait>(
         &self,
         rt: &W,
@@ -68,13 +66,10 @@ impl<S, Q: ShelfAccess<S, U, N>, U: PutReceipt + Drop, N: AbsenceReceipt + Drop>
         name: ShelfName,
         bytes: &[u8],
     ) -> Result<U, AccessFault> {
-        for _ in 0..MOST_TRIES {
-            let outcome = self.access.put(rt, files, name, bytes);
-            if !self.gives(rt, &outcome) {
-                return outcome;
-            }
-        }
-        self.access.put(rt, files, name, bytes)
+        repeated(
+            || put_once(&self.calls, rt, files, name, bytes),
+            || self.stop.asks(rt),
+        )
     }
 
     fn get<W: Wait>(
@@ -83,12 +78,9 @@ impl<S, Q: ShelfAccess<S, U, N>, U: PutReceipt + Drop, N: AbsenceReceipt + Drop>
         files: &Mutex<Files<S>>,
         name: ShelfName,
     ) -> Result<Found<N>, AccessFault> {
-        for _ in 0..MOST_TRIES {
-            let outcome = self.access.get(rt, files, name);
-            if !self.gives(rt, &outcome) {
-                return outcome;
-            }
-        }
-        self.access.get(rt, files, name)
+        repeated(
+            || get_once(&self.calls, rt, files, name),
+            || self.stop.asks(rt),
+        )
     }
 }

@@ -2,14 +2,17 @@
 #![tactic(auto)]
 
 mod descriptors;
+mod ends;
 mod halts;
 mod processes;
+mod repeating;
 mod starting;
 mod stopping;
 mod surroundings;
 mod telling;
 
 pub use descriptors::{GivingAccess, places_of};
+pub use ends::EndsSeen;
 pub use halts::{Halt, HaltingShelf};
 pub use processes::Process;
 pub use starting::Start;

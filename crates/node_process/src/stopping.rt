@@ -1,4 +1,6 @@
 //! How the nodes come to their end, and who is asked for a descriptor meanwhile.
+ghost use Rattle.std.specs.Prelude.{◌≡◌, ◌-◌, ◌<◌, ◌↔◌, IsTrue, false, true};
+
 use std::sync::{Condvar, Mutex, Wait};
 use std::time::{Clock, Duration};
 
@@ -7,6 +9,42 @@ use std::time::{Clock, Duration};
 struct Left {
     workers: u64,
     is_lacking: bool,
+}
+
+impl Left {
+    /// A worker has ended. Answers whether it was the last.
+    fn leave(&mut self) -> bool
+        ensures fewer { self.new.workers ≡ self.old.workers - 1 }
+        ensures last { IsTrue result ↔ (self.new.workers ≡ 0) }
+        ensures asked { self.new.is_lacking ≡ self.old.is_lacking }
+    {
+        self.workers = self.workers.saturating_sub(1);
+        self.workers == 0
+    }
+
+    /// A thread lacks a descriptor. Answers whether one may be given: nobody gives one once all workers have ended.
+    fn ask(&mut self) -> bool
+        ensures may { IsTrue result ↔ (0 < self.old.workers) }
+        ensures asked { 0 < self.old.workers → self.new.is_lacking ≡ true }
+        ensures same { self.new.workers ≡ self.old.workers }
+    {
+        if self.workers == 0 {
+            return false;
+        }
+        self.is_lacking = true;
+        true
+    }
+
+    /// Whether a thread has asked for a descriptor since this was called last.
+    fn take_ask(&mut self) -> bool
+        ensures asked { result ≡ self.old.is_lacking }
+        ensures taken { self.new.is_lacking ≡ false }
+        ensures same { self.new.workers ≡ self.old.workers }
+    {
+        let was = self.is_lacking;
+        self.is_lacking = false;
+        was
+    }
 }
 
 /// What the threads of the nodes tell the thread that oversees them.
@@ -38,10 +76,7 @@ impl Stop {
 
     /// A worker has ended. Answers whether it was the last. Once it was, no thread waits for a descriptor.
     pub fn leave<R: Wait>(&self, rt: &R) -> bool {
-        let mut left = self.left.lock(rt);
-        left.workers = left.workers.saturating_sub(1);
-        let is_last = left.workers == 0;
-        drop(left);
+        let is_last = self.left.lock(rt).leave();
         self.changes.notify_all();
         if is_last {
             self.given.notify_all();
@@ -67,10 +102,9 @@ impl Stop {
     /// Asks for a descriptor, and waits until the overseeing thread has done what it can. Once all workers have ended it answers that nobody gives one.
     pub fn asks<R: Wait>(&self, rt: &R) -> bool {
         let mut left = self.left.lock(rt);
-        if left.workers == 0 {
+        if !left.ask() {
             return false;
         }
-        left.is_lacking = true;
         self.changes.notify_all();
         let left = self.given.wait(rt, left);
         left.workers > 0
@@ -78,10 +112,7 @@ impl Stop {
 
     /// Whether a thread has asked for a descriptor since this was called last.
     pub fn is_asked<R: Wait>(&self, rt: &R) -> bool {
-        let mut left = self.left.lock(rt);
-        let was = left.is_lacking;
-        left.is_lacking = false;
-        was
+        self.left.lock(rt).take_ask()
     }
 
     /// Lets the threads that asked look again.

@@ -1,6 +1,10 @@
 //! How the operator is told what happens.
+ghost use Rattle.std.specs.Prelude.{◌≡◌, ◌++◌, IfOk, OnOk, string_bytes};
+ghost use Rattle.node_process.specs.Lines.{IsLine, IsStamp, more_text};
+
 use http_wire::{Sink, write_all};
-use httpdate::HttpDate;
+use jiff_core::Timestamp;
+use jiff_fmt::temporal::DateTimePrinter;
 use operator_notices::{Kind, Notice, Notices};
 use std::alloc::{AllocError, Global};
 use std::sync::{Mutex, Wait};
@@ -23,11 +27,6 @@ const SPAN: u128 = 1_000;
 
 /// What stands for a time that has no date.
 const NO_DATE: &str = "0000-00-00T00:00:00Z";
-
-/// The months as a date in a header names them (RFC 9110, section 5.6.7).
-const MONTHS: [&[u8]; 12] = [
-    b"Jan", b"Feb", b"Mar", b"Apr", b"May", b"Jun", b"Jul", b"Aug", b"Sep", b"Oct", b"Nov", b"Dec",
-];
 
 /// Writes a line for each notice, at most one a second of a kind. What can't be written is dropped.
 #[derive(Drop)]
@@ -71,12 +70,7 @@ impl<'a, T: Sink> Teller<'a, T> {
         kind: Kind,
         notice: &Notice,
     ) -> Result<(), AllocError> {
-        let stamp = stamp(self.alloc, seconds(rt))?;
-        let (word, text) = (kind.word(), notice.text.as_str());
-        let line = match notice.more {
-            0 => format!(in self.alloc; "filehost: {stamp} {word}: {text}\n")?,
-            more => format!(in self.alloc; "filehost: {stamp} {word}: {text} ({more} more)\n")?,
-        };
+        let line = line_of(self.alloc, seconds(rt), kind, notice)?;
         let mut sink = self.sink.lock(rt);
         let _ = write_all(&mut *sink, line.as_bytes());
         Ok(())
@@ -95,29 +89,34 @@ fn seconds<R: Clock>(rt: &R) -> u64 {
 }
 
 /// A time in UTC, as in `2026-11-28T18:04:05Z` (RFC 3339, section 5.6).
-fn stamp(alloc: Global, seconds: u64) -> Result<String, AllocError> {
-    let Ok(date) = HttpDate::from_unix_secs(seconds) else {
+fn stamp(alloc: Global, seconds: u64) -> Result<String, AllocError>
+    ensures { IfOk result (λ text. IsStamp seconds (string_bytes text)) }
+{
+    let Ok(moment) = Timestamp::from_nanosecond(seconds as i128 * 1_000_000_000) else {
         return format!(in alloc; "{}", NO_DATE);
     };
-    let text = date.to_bytes();
-    let month = month_of(&text[8..11]);
-    let day = part(&text[5..7]);
-    let year = part(&text[12..16]);
-    let time = part(&text[17..25]);
-    format!(in alloc; "{year}-{month:02}-{day}T{time}Z")
+    let printer = DateTimePrinter::new().precision(Some(0));
+    format!(in alloc; "{}", printer.timestamp_text(moment).as_str())
 }
 
-/// The number of a month, from 1 on; 0 if there is no month of this name.
-fn month_of(name: &[u8]) -> usize {
-    for (before, month) in MONTHS.iter().enumerate() {
-        if *month == name {
-            return before + 1;
-        }
+/// The line of a notice that is written so many seconds after the beginning of 1970.
+fn line_of(alloc: Global, seconds: u64, kind: Kind, notice: &Notice) -> Result<String, AllocError>
+    ensures { IfOk result (λ line. IsLine seconds kind notice.now (string_bytes line)) }
+{
+    let stamp = stamp(alloc, seconds)?;
+    let (word, text) = (kind.word(), notice.text.as_str());
+    let mut line = format!(in alloc; "filehost: {stamp} {word}: {text}")?;
+    push_more(&mut line, notice.more)?;
+    line.push_str("\n")?;
+    Ok(line)
+}
+
+/// Appends how many more of its kind came, if any did.
+fn push_more(line: &mut String, more: u64) -> Result<(), AllocError>
+    ensures { OnOk result (string_bytes line.new ≡ string_bytes line.old ++ more_text more) }
+{
+    if more == 0 {
+        return Ok(());
     }
-    0
-}
-
-/// A part of a date, whose bytes are ASCII.
-fn part(bytes: &[u8]) -> &str {
-    str::from_utf8(bytes).unwrap_or("")
+    write!(line, " ({more} more)")
 }

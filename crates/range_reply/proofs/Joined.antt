@@ -4,7 +4,7 @@ use Rattle.std.proofs.lemmas.List.Elements.{All-cons, All-head, All-nil, All-tai
 use Rattle.host_names.specs.declared.digests.Digest.{Digest}
 use Rattle.host_names.specs.Digests.{digest_of}
 use Rattle.byte_view.specs.Cuts.{IsPure, slice}
-use Rattle.byte_view.specs.Holds.{Held, IsHeld}
+use Rattle.byte_view.specs.Holds.{Held}
 use Rattle.range_spec.specs.declared.selection.Choice.{Choice}
 use Rattle.range_spec.specs.declared.selection.Choice.TheVariants.{Whole, One, Many, None416}
 use Rattle.range_reply.specs.declared.boundaries.Boundary.{Boundary}
@@ -15,14 +15,13 @@ use Rattle.range_reply.specs.Sending.{IsSent, more_of, sent_holds}
 use Rattle.range_reply.proofs.Sent.{slices-of_file}
 
 -- chunks of one file that differ from none of its pieces
-pub are_pure : (file : List ℕ) (holds : List Held) → All (λ h. h.file ≡ file) holds → All IsHeld holds → All (λ h. All (IsPure file) h.chunks) holds → ArePure holds
-are_pure file [] same lawful pure = All-nil (λ (h : Held). IsHeld h × All (IsPure h.file) h.chunks)
-are_pure file (h ∷ hs) same lawful pure =
+pub are_pure : (file : List ℕ) (holds : List Held) → All (λ h. h.file ≡ file) holds → All (λ h. All (IsPure file) h.chunks) holds → ArePure holds
+are_pure file [] same pure = All-nil (λ (h : Held). All (IsPure h.file) h.chunks)
+are_pure file (h ∷ hs) same pure =
     let F = λ (g : Held). g.file ≡ file in
     let P = λ (g : Held). All (IsPure file) g.chunks in
     let here = subst (λ f. All (IsPure f) h.chunks) (sym (All-head F h hs same)) (All-head P h hs pure) in
-    All-cons (λ (g : Held). IsHeld g × All (IsPure g.file) g.chunks) h hs (All-head IsHeld h hs lawful, here)
-    (are_pure file hs (All-tail F h hs same) (All-tail IsHeld h hs lawful) (All-tail P h hs pure))
+    All-cons (λ (g : Held). All (IsPure g.file) g.chunks) h hs here (are_pure file hs (All-tail F h hs same) (All-tail P h hs pure))
 
 -- what is sent goes by the bytes of the stretches that are asked for
 pub is_sent : (file : List ℕ) (size : ℕ) (holds : List Held) (digest : Digest) (plan : Choice) (boundary : Option Boundary) (sent : Choice) → All (λ h. h.file ≡ file) holds

@@ -1,53 +1,10 @@
 -- Where bytes occur in texts that are joined.
-use Rattle.std.proofs.Common.{◌≡◌, ℕ, ◌+◌, ◌-◌, ◌<◌, ◌≤◌, ◌⊎◌, inl, inr, ⊎_elim, List, [], ◌++◌, length, take, drop, sym, ap, ◌∙◌, arith, append_assoc, append-nil}
-use Rattle.std.proofs.Math.Seq.{take-append-add, take-append_seam, drop-append-add, drop-append_seam}
+use Rattle.std.proofs.Common.{◌≡◌, ℕ, ◌+◌, ◌-◌, ◌<◌, ◌≤◌, ◌⊎◌, inl, inr, ⊎_elim, List, [], ◌++◌, length, take, drop, sym, ap, ◌∙◌, arith, append_assoc, subst}
+use Rattle.std.proofs.Math.Seq.{take-append-add, drop-append-add}
 use Rattle.std.proofs.lemmas.Bool.{cases_lt}
 use Rattle.std.proofs.lemmas.List.{length-append, length-drop, take-append-drop, take-append-le, drop-append-le, drop-drop, take-take, take_all}
-use Rattle.std.proofs.Common.{Option, Some, None, Bool, IsTrue, is_some, subst}
-use Rattle.memchr.specs.Find.{FindsNeedle}
-use Rattle.memchr.proofs.lemmas.MatchLemmas.{OccursAt-part, OccursAt-from_part}
+use Rattle.byte_view.proofs.Occurrences.{OccursIn, from_place, occurs_before, occurs_within, place_of}
 use Rattle.range_reply.specs.Searches.{ending}
-use Rattle.std.specs.Str.Iter.{HasSubslice}
-
--- the text has these bytes, one after another
-abbrev pub OccursIn : List ℕ → List ℕ → Type 0
-OccursIn bytes text = HasSubslice text bytes
-
--- ---- places
-
--- a place from which on the text is these bytes
-pub record IsPlace (bytes text : List ℕ) (k : ℕ) : Type 0 where
-  pub fits : k + length bytes ≤ length text
-  pub reads : take (length bytes) (drop k text) ≡ bytes
-
-pub place_of : (bytes text : List ℕ) → OccursIn bytes text → (k : ℕ) × IsPlace bytes text k
-place_of bytes text o =
-    let before = o.0 in let after = o.1 in
-    let size : length text ≡ length before + (length bytes + length after) =
-    ap length o.2 ∙ length-append before (bytes ++ after) ∙ ap (λ n. length before + n) (length-append bytes after) in
-    let rest : drop (length before) text ≡ bytes ++ after = ap (drop (length before)) o.2 ∙ drop-append_seam before (bytes ++ after) in
-    (length before, record { fits = omega arith; reads = ap (take (length bytes)) rest ∙ take-append_seam bytes after })
-
-pub from_place : (bytes text : List ℕ) (k : ℕ) → take (length bytes) (drop k text) ≡ bytes → OccursIn bytes text
-from_place bytes text k reads =
-    let after = drop (length bytes) (drop k text) in
-    (take k text, after, sym (ap (λ l. take k text ++ (l ++ after)) (sym reads) ∙ ap (λ l. take k text ++ l) (take-append-drop (length bytes) (drop k text)) ∙ take-append-drop k text))
-
--- ---- joined texts
-
-pub occurs_within : (bytes before text after : List ℕ) → OccursIn bytes text → OccursIn bytes (before ++ (text ++ after))
-occurs_within bytes before text after o = (
-  before ++ o.0,
-  o.1 ++ after,
-  ap (λ l. before ++ (l ++ after)) o.2 ∙ ap (λ l. before ++ l) (append_assoc o.0 (bytes ++ o.1) after ∙ ap (λ l. o.0 ++ l) (append_assoc bytes o.1 after))
-      ∙ sym (append_assoc before o.0 (bytes ++ (o.1 ++ after))),
-)
-
-pub occurs_before : (bytes a b : List ℕ) → OccursIn bytes a → OccursIn bytes (a ++ b)
-occurs_before bytes a b o = occurs_within bytes [] a b o
-
-pub occurs_after : (bytes a b : List ℕ) → OccursIn bytes b → OccursIn bytes (a ++ b)
-occurs_after bytes a b o = rw (sym (append-nil b)) (occurs_within bytes a b [] o)
 
 -- around the edge
 module _ (bytes a b : List ℕ) where
@@ -118,13 +75,6 @@ ending_short a b short =
     ∙ sym (drop-append-le (e + j) a b (omega arith)) ∙ ap (λ n. drop n (a ++ b)) sum
 
 -- ---- a search
-
-pub found_exactly : (bytes text : List ℕ) (found : Option ℕ) (is : Bool) → FindsNeedle text bytes 0 found → is ≡ is_some found → (IsTrue is → OccursIn bytes text) × (OccursIn bytes text → IsTrue is)
-found_exactly bytes text None is none e = (
-  (λ yes. absurd (cc)),
-  (λ o. let p = place_of bytes text o in absurd (none p.0 (omega arith) (omega (arith, p.1.fits)) (OccursAt-from_part text bytes p.0 p.1.fits p.1.reads))),
-)
-found_exactly bytes text (Some k) is at e = ((λ yes. from_place bytes text k (OccursAt-part text bytes k at.1)), (λ o. e))
 
 -- these bytes are in no part of a text that was looked through: its last bytes are known, and what is left of all
 pub record IsSearched (bytes last rest all : List ℕ) : Type 0 where

@@ -2,7 +2,7 @@
 use Rattle.std.proofs.Common.{◌≡◌, ℕ, ◌<◌, List, [], get_or, length, sym, subst, ◌∙◌, arith}
 use Rattle.std.proofs.lemmas.List.{get_or_default}
 use Rattle.range_reply.specs.Slices.{OccursInOne}
-use Rattle.range_reply.proofs.Occurrences.{OccursIn}
+use Rattle.byte_view.proofs.Occurrences.{OccursIn}
 
 pub one_has : (bytes : List ℕ) (texts : List (List ℕ)) (k : ℕ) → k < length texts → OccursIn bytes (get_or texts k []) → OccursInOne bytes texts
 one_has bytes texts k lt o =

@@ -94,6 +94,6 @@ module _ (boundary content_type file : List ℕ) (holds : List Held) (plan : Cho
       text-long boundary content_type (length file) holds plan held
       ∙ ap (λ texts. length (body_text boundary content_type (length file) plan texts)) meant
 
-  pub sent-pure : ArePure holds → body_text boundary content_type (length file) plan (map shown holds)
+  pub sent-pure : All IsHeld holds → ArePure holds → body_text boundary content_type (length file) plan (map shown holds)
       ≡ body_text boundary content_type (length file) plan (map (λ s. slice file s.0 s.1) (stretches (length file) plan))
-  sent-pure pure = ap (body_text boundary content_type (length file) plan) (shown-pure holds pure ∙ meant)
+  sent-pure held pure = ap (body_text boundary content_type (length file) plan) (shown-pure holds held pure ∙ meant)

@@ -1,23 +1,17 @@
-//! Searches what is held of a file for bytes, in the chunks and across their edges. No call allocates.
+//! Searches what is held of a file for bytes, in the chunks and across their edges. Bytes with the mark are looked for across all edges, and in those
+//! chunks alone that have the mark too. No call allocates.
 ghost use Rattle.std.specs.Prelude.{◌≡◌, ◌↔◌, ◌<◌, ◌≤◌, ◌++◌, List, ℕ, IsTrue, length, map, take};
 ghost use Rattle.std.specs.List.{concat};
 ghost use Rattle.std.specs.Str.Iter.{HasSubslice};
+ghost use Rattle.byte_view.specs.Holds.{IsHeld};
 ghost use Rattle.range_reply.specs.Searches.{ending};
-ghost use Rattle.range_reply.specs.Slices.{OccursInOne, shown};
+ghost use Rattle.range_reply.specs.Slices.{ArePure, OccursInOne, all_meant, shown};
 
 use arrayvec::ArrayVec;
-use byte_view::{Hold, Pieces};
-use memchr::memmem;
+use byte_view::{Hold, Pieces, mark, occurs};
 
 /// How many bytes on each side of an edge are searched: as many as the longest text that may be searched for has.
 const SIDE: usize = 64;
-
-/// Whether bytes occur in a text.
-fn occurs(bytes: &[u8], text: &[u8]) -> bool
-    ensures { IsTrue result ↔ HasSubslice text.now bytes.now }
-{
-    memmem::find(text, bytes).is_some()
-}
 
 /// Returns the last 64 bytes of a text, or all if it has fewer.
 fn last_bytes(text: &[u8]) -> ArrayVec<u8, 64>
@@ -48,27 +42,32 @@ fn last_bytes_after(edge: &[u8], piece: &[u8]) -> ArrayVec<u8, 64>
 }
 
 /// Whether bytes occur in pieces that follow one another.
-fn occurs_in_pieces(bytes: &[u8], pieces: Pieces<'_>) -> bool
+fn occurs_in_pieces(bytes: &[u8], mut pieces: Pieces<'_>) -> bool
     requires some { 0 < length bytes.now }
     requires few { length bytes.now ≤ 64 }
     ensures { IsTrue result ↔ HasSubslice (concat pieces.entry) bytes.now }
 {
+    let has_mark = occurs(mark(), bytes);
     let mut last = ArrayVec::new();
-    for piece in pieces {
+    'pieces: loop {
+        let may_have_bytes = !has_mark || pieces.next_may_have_mark();
+        let Some(piece) = pieces.next() else {
+            return false;
+        };
         let edge = around_edge(last.as_slice(), piece);
-        if occurs(bytes, edge.as_slice()) || occurs(bytes, piece) {
+        if occurs(bytes, edge.as_slice()) || may_have_bytes && occurs(bytes, piece) {
             return true;
         }
         last = last_bytes_after(edge.as_slice(), piece);
     }
-    false
 }
 
 /// Whether bytes occur in what a hold shows of its stretch.
 fn occurs_in_hold(bytes: &[u8], hold: &Hold) -> bool
     requires some { 0 < length bytes.now }
     requires few { length bytes.now ≤ 64 }
-    ensures { IsTrue result ↔ HasSubslice (shown hold.now) bytes.now }
+    ensures shown { IsTrue result ↔ HasSubslice (shown hold.now) bytes.now }
+    ensures held { IsHeld hold.now }
 {
     let (first, last) = hold.stretch();
     occurs_in_pieces(bytes, hold.pieces(first, last))
@@ -78,7 +77,8 @@ fn occurs_in_hold(bytes: &[u8], hold: &Hold) -> bool
 pub(crate) fn occurs_in_one(bytes: &[u8], holds: &[Hold]) -> bool
     requires some { 0 < length bytes.now }
     requires few { length bytes.now ≤ 64 }
-    ensures { IsTrue result ↔ OccursInOne bytes.now (map shown holds.now) }
+    ensures shown { IsTrue result ↔ OccursInOne bytes.now (map shown holds.now) }
+    ensures pure { ArePure holds.now → (IsTrue result ↔ OccursInOne bytes.now (all_meant holds.now)) }
 {
     for hold in holds {
         if occurs_in_hold(bytes, hold) {

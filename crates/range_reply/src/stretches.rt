@@ -1,6 +1,5 @@
 //! Holds the stretches of a file, one after another.
 ghost use Rattle.std.specs.Prelude.{◌≡◌, ◌<◌, ◌∷◌, [], All, IfErr, IfOk, length};
-ghost use Rattle.byte_view.specs.Holds.{IsHeld};
 ghost use Rattle.range_reply.specs.Bodies.{stretches, whole_of};
 ghost use Rattle.range_spec.specs.Chosen.{LiesWithin, intervals_in};
 ghost use Rattle.range_reply.specs.Holding.{AreHeld, AreNotHeld, IsHoldOf, IsNextFault, IsNextHold, IsNoHold, held_in};
@@ -12,13 +11,6 @@ use chunk_reads::{Holder, ReadFault};
 use range_spec::Choice;
 use std::alloc::Global;
 use std::sync::Arc;
-
-/// States what is true of every hold. It does nothing.
-fn lawful(hold: &Hold)
-    ensures { IsHeld hold.now }
-{
-    let _ = hold.stretch();
-}
 
 /// Holds a stretch of a file.
 fn hold_one<H: Holder>(
@@ -32,7 +24,7 @@ fn hold_one<H: Holder>(
 {
     let info = info.clone().map_err(|_| ReadFault::OutOfMemory)?;
     let hold = holder.hold(info, stretch.0 as usize, stretch.1 as usize)?;
-    lawful(&hold);
+    let _ = hold.stretch(); // for its clause `held`
     Ok(hold)
 }
 

@@ -1,8 +1,10 @@
 -- What a put leaves of a file, and what a crash during it.
-use Rattle.std.proofs.Common.{◌≡◌, ℕ, ◌+◌, zero, suc, List, [], ◌∷◌, ◌++◌, length, drop, ⊎_elim, sym, ◌∙◌, ap, subst, arith, append_assoc, length-append}
+use Rattle.std.proofs.Common.{◌≡◌, ◌⊎◌, ℕ, ◌+◌, zero, suc, inl, inr, List, [], ◌∷◌, ◌++◌, length, drop, ⊎_elim, sym, ◌∙◌, ap, subst, arith, append_assoc, length-append}
 use Rattle.std.proofs.lemmas.List.{append-nil}
 use Rattle.std.specs.Int.{w32, to_be_bytes}
+use Rattle.host_disk.specs.Calls.{DiskCall, Sync, WriteAt}
 use Rattle.host_disk.specs.Crashes.{IsWritten, Only, Torn}
+use Rattle.record_file.specs.Failures.{MayFailPutting}
 use Rattle.record_file.specs.Frames.{framed, records, opened, IsShut, MayHold, before, between, after, AllShut, MayLeave}
 use Rattle.record_file.proofs.AroundGates.{torn_behind, torn_at, written_behind, written_at}
 
@@ -83,3 +85,53 @@ module _ (header : List ℕ) where
   pub next_gate : (bodies : List (List ℕ)) (body bytes : List ℕ) (at : ℕ) → at ≡ length (opened header bodies) → bytes ≡ framed body ++ 0 ∷ [] → at + length bytes ≡ length (opened header (bodies ++ body ∷ []))
   next_gate bodies body bytes at is spelled =
       omega (arith, ap length (opened-push bodies body), length-append (opened header bodies) (1 ∷ framed body), ap length spelled, length-append (framed body) (0 ∷ []))
+
+  -- ---- what may fail
+
+  module _ {D : Type 0} (seen : D → List ℕ) (may_fail : D → DiskCall → Type 0) where
+    -- while the record is written
+    pub fails_behind : (bodies : List (List ℕ)) (body : List ℕ) (at : ℕ) (bytes : List ℕ) (old : D) → at ≡ length (opened header bodies) → bytes ≡ framed body ++ 0 ∷ []
+        → IsShut header bodies (seen old)
+        → may_fail old (WriteAt (at + 1) (length bytes)) ⊎ ((mid : D) × IsWritten (seen old) (at + 1) bytes (seen mid) × may_fail mid Sync)
+        → MayFailPutting seen may_fail (opened header bodies) (length bytes)
+    fails_behind bodies body at bytes old is spelled shut (inl fails) =
+        let long = ap length shut.is ∙ length-append (opened header bodies) (0 ∷ shut.rest) in
+        record {
+          disk = old;
+          call = WriteAt (at + 1) (length bytes);
+          rest = 0 ∷ shut.rest;
+          begins = shut.is;
+          behind = (omega (arith, is), omega (arith, is, long), omega arith);
+          fails = fails;
+        }
+    fails_behind bodies body at bytes old is spelled shut (inr (mid, written, fails)) =
+        let whole = written_record bodies body at bytes (seen old) (seen mid) is spelled shut written in
+        record { disk = mid; call = Sync; rest = 0 ∷ (framed body ++ 0 ∷ whole.rest); begins = whole.is; behind = tt; fails = fails }
+
+    -- while the gate is opened
+    pub fails_at : (bodies : List (List ℕ)) (body : List ℕ) (at : ℕ) (bytes : List ℕ) (old : D) → at ≡ length (opened header bodies) → bytes ≡ framed body ++ 0 ∷ []
+        → IsWhole header bodies body 0 (seen old)
+        → may_fail old (WriteAt at 1) ⊎ ((mid : D) × IsWritten (seen old) at (1 ∷ []) (seen mid) × may_fail mid Sync)
+        → MayFailPutting seen may_fail (opened header bodies) (length bytes)
+    fails_at bodies body at bytes old is spelled whole (inl fails) =
+        let long = ap length whole.is ∙ length-append (opened header bodies) (0 ∷ (framed body ++ 0 ∷ whole.rest)) in
+        let some = ap length spelled ∙ length-append (framed body) (0 ∷ []) in
+        record {
+          disk = old;
+          call = WriteAt at 1;
+          rest = 0 ∷ (framed body ++ 0 ∷ whole.rest);
+          begins = whole.is;
+          behind = (omega (arith, is), omega (arith, is, long), omega (arith, some));
+          fails = fails;
+        }
+    fails_at bodies body at bytes old is spelled whole (inr (mid, written, fails)) =
+        let shut = written_gate bodies body at (seen old) (seen mid) is whole written in
+        record {
+          disk = mid;
+          call = Sync;
+          rest = 1 ∷ (framed body ++ 0 ∷ shut.rest);
+          begins = shut.is ∙ ap (λ (l : List ℕ). l ++ 0 ∷ shut.rest) (opened-push bodies body)
+              ∙ append_assoc (opened header bodies) (1 ∷ framed body) (0 ∷ shut.rest);
+          behind = tt;
+          fails = fails;
+        }

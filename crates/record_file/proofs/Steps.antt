@@ -1,5 +1,5 @@
 -- What a step of a disk and its sync leave.
-use Rattle.std.proofs.Common.{◌≡◌, ℕ, List, inl, inr, ⊎_elim, sym, subst, Result, Ok, Err, OnOk, OnErr, false, ◌∙◌}
+use Rattle.std.proofs.Common.{◌≡◌, ℕ, List, inl, inr, ⊎_elim, sym, subst, Result, Ok, Err, OnOk, OnErr, false, true, ◌∙◌}
 use Rattle.host_disk.specs.Crashes.{LeavesOnly}
 use Rattle.std.specs.Result.{IfOk, is_err, IsErrAnd, IfErr}
 
@@ -21,6 +21,11 @@ both_on_ok (Err x) P Q R from p q = tt
 pub from_ok : {T E : Type 0} (result : Result T E) (P : Type 0) → false ≡ is_err result → OnOk result P → P
 from_ok (Ok x) P none p = p
 from_ok (Err x) P none p = absurd (cc none)
+
+-- a fact of an error, where there was one
+pub from_err : {T E : Type 0} (result : Result T E) (P : Type 0) → true ≡ is_err result → OnErr result P → P
+from_err (Ok x) P some p = absurd (cc some)
+from_err (Err x) P some p = p
 
 -- an error that is handed on
 pub same_fault : {T E : Type 0} (result : Result T E) (fault : E) (P : E → Type 0) → IsErrAnd result (λ f. f ≡ fault) → P fault → IfErr result P

@@ -1,9 +1,10 @@
 //! A file of records that is open.
-ghost use Rattle.std.specs.Prelude.{◌≡◌, ◌+◌, ◌<◌, ◌≤◌, ◌^◌, Err, IsErrOf, IsTrue, List, MatchResult, OnOk, [], ◌∷◌, ◌++◌, length, false, true, ℕ};
+ghost use Rattle.std.specs.Prelude.{◌≡◌, ◌+◌, ◌<◌, ◌≤◌, ◌^◌, Err, IsErrOf, IsTrue, List, MatchResult, OnErr, OnOk, [], ◌∷◌, ◌++◌, length, false, true, ℕ};
 ghost use Rattle.host_disk.specs.Crashes.{CountsFailure, LeavesOnly};
+ghost use Rattle.record_file.specs.Failures.{MayFailPutting};
 ghost use Rattle.record_file.specs.Frames.{AllShut, MayHold, framed, opened};
 ghost use Rattle.record_file.specs.Settled.{IsSettled, TellsBreak};
-ghost use Rattle.record_file.specs.declared.records.PutFault.TheVariants.{Broken};
+ghost use Rattle.record_file.specs.declared.records.PutFault.TheVariants.{Broken, Device};
 
 use crate::positions::Position;
 use crate::synced::write_synced;
@@ -40,6 +41,10 @@ fn put_record<D: Disk>(disk: &mut D, gate: usize, bytes: &[u8]) -> Result<(), De
         → gate ≡ length (opened header bodies) → bytes.now ≡ framed body ++ 0 ∷ []
         → AllShut header (D.may_leave disk.old) bodies
         → LeavesOnly D.moment D.left_since disk.old disk.new (MayHold header bodies body) }
+    ensures reason { IsTrue D.is_modelled → (header : List ℕ) (bodies : List (List ℕ)) (body : List ℕ)
+        → gate ≡ length (opened header bodies) → bytes.now ≡ framed body ++ 0 ∷ []
+        → AllShut header (D.may_leave disk.old) bodies
+        → OnErr result (MayFailPutting D.seen D.may_fail (opened header bodies) (length bytes.now)) }
     ensures cause { CountsFailure result (D.faults disk.old) (D.faults disk.new) }
 {
     write_synced(disk, gate + 1, bytes)?;
@@ -84,6 +89,9 @@ impl<D: Disk> Records<D> {
         ensures any_moment { IsTrue D.is_modelled → (header : List ℕ) (bodies : List (List ℕ)) (body : List ℕ)
             → bytes.now ≡ framed body ++ 0 ∷ [] → IsSettled header D.may_leave self.old bodies
             → LeavesOnly D.moment D.left_since self.old.disk self.new.disk (MayHold header bodies body) }
+        ensures reason { IsTrue D.is_modelled → (header : List ℕ) (bodies : List (List ℕ)) (body : List ℕ)
+            → bytes.now ≡ framed body ++ 0 ∷ [] → IsSettled header D.may_leave self.old bodies
+            → IsErrOf result Device → MayFailPutting D.seen D.may_fail (opened header bodies) (length bytes.now) }
         ensures refused { IsTrue self.old.broken → (result ≡ Err Broken) × (self.new ≡ self.old) }
         ensures broken { IsErrOf result Broken → IsTrue self.old.broken }
         ensures breaks { MatchResult result (λ _. self.new.broken ≡ false) (λ _. self.new.broken ≡ true) }

@@ -1,9 +1,11 @@
 //! Two slots that are open: one has the file that is read, and the other takes the next file.
 ghost use Rattle.std.specs.Prelude.{◌≡◌, ◌+◌, ◌<◌, ◌≤◌, Err, IsErrOf, IsTrue, List, MatchResult, OnOk, [], ◌∷◌, ◌++◌, false, length, true, ℕ};
-ghost use Rattle.record_file.specs.declared.records.PutFault.TheVariants.{Broken};
-ghost use Rattle.record_file.specs.Frames.{framed};
+ghost use Rattle.record_file.specs.declared.records.PutFault.TheVariants.{Broken, Device};
+ghost use Rattle.record_file.specs.Failures.{MayFailPutting};
+ghost use Rattle.record_file.specs.Frames.{framed, opened};
 ghost use Rattle.record_file.specs.Pairs.{ArePaired, BothLeave, first_of, order_of, second_of};
 ghost use Rattle.record_file.specs.Settled.{TellsBreak};
+ghost use Rattle.record_file.specs.Slots.{new_header};
 
 use crate::pairs::Opened;
 use crate::records::{PutFault, Records};
@@ -71,6 +73,9 @@ impl<D: Disk> Slots<D> {
             ≡ framed body ++ 0 ∷ [] → ArePaired D.may_leave self.old bodies
             → BothLeave D.moment D.left_since (order_of self.old.turned) bodies body
             (first_of self.old) (second_of self.old) (first_of self.new) (second_of self.new) }
+        ensures reason { IsTrue D.is_modelled → (bodies : List (List ℕ)) (body : List ℕ) → bytes.now
+            ≡ framed body ++ 0 ∷ [] → ArePaired D.may_leave self.old bodies → IsErrOf result Device
+            → MayFailPutting D.seen D.may_fail (opened new_header bodies) (length bytes.now) }
         ensures refused { IsTrue self.old.records.broken → (result ≡ Err Broken) × (self.new ≡ self.old) }
         ensures broken { IsErrOf result Broken → IsTrue self.old.records.broken }
         ensures breaks { MatchResult result (λ _. self.new.records.broken ≡ false) (λ _. self.new.records.broken ≡ true) }

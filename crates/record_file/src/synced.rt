@@ -1,5 +1,6 @@
 //! A change of a disk that lasts: a sync follows it.
-ghost use Rattle.std.specs.Prelude.{◌≡◌, IsTrue, OnOk, length, take};
+ghost use Rattle.std.specs.Prelude.{◌≡◌, ◌⊎◌, IsTrue, OnErr, OnOk, length, take};
+ghost use Rattle.host_disk.specs.Calls.{Sync, WriteAt};
 ghost use Rattle.host_disk.specs.Crashes.{CountsFailure, Cut, IsWritten, LeavesOnly, Only, Torn};
 ghost use Rattle.record_file.specs.Frames.{MayLeave};
 
@@ -15,6 +16,8 @@ pub(crate) fn write_synced<D: Disk>(
     ensures durable { IsTrue D.is_modelled → OnOk result (Only (D.seen disk.new) (D.may_leave disk.new)) }
     ensures any_moment { IsTrue D.is_modelled
         → LeavesOnly D.moment D.left_since disk.old disk.new (MayLeave (Torn at (length bytes.now)) (D.may_leave disk.old)) }
+    ensures reason { IsTrue D.is_modelled → OnErr result (D.may_fail disk.old (WriteAt at (length bytes.now))
+        ⊎ ((mid : D) × IsWritten (D.seen disk.old) at bytes.now (D.seen mid) × D.may_fail mid Sync)) }
     ensures cause { CountsFailure result (D.faults disk.old) (D.faults disk.new) }
 {
     disk.write_at(at, bytes)?;

@@ -1,7 +1,8 @@
 //! What readers ask a desk.
 ghost use Rattle.std.specs.Prelude.{◌≡◌, IfOk, IsSome, OnErr};
-ghost use Rattle.byte_view.specs.Contents.{AreDigested, Contents};
+ghost use Rattle.byte_view.specs.Contents.{AreDigested};
 ghost use Rattle.change_log.specs.Logs.{BeginsWith};
+ghost use Rattle.site_change.specs.Changes.{IsWithin};
 ghost use Rattle.site_state.specs.Missing.{AreMissing, least_missing_of};
 
 use crate::desks::Desk;
@@ -12,7 +13,7 @@ use host_names::Digest;
 use left_right::Absorb;
 use seen_lists::{Front, ListName};
 use site_change::{Entry, uploads_are_digested};
-use site_desk::{DeskName, Notice, Tie};
+use site_desk::{DeskName, Notice, SeenFiles};
 use site_state::{Listing, missing};
 use std::alloc::{AllocError, Global};
 use std::sync::{Mutex, Wait};
@@ -30,23 +31,24 @@ impl<
         &self.files
     }
 
-    /// The listed digests whose files aren't known by now, in their order, each once, and what is known by now. The lock of the files that are known is
-    /// held meanwhile, and no other.
+    /// The listed digests whose files aren't known by now, in their order, each once. What is known by now is told, and what was known before is among it. The
+    /// lock of the files that are known is held meanwhile, and no other.
     pub fn missing(
         &self,
         rt: &impl Wait,
         alloc: Global,
+        known: &mut SeenFiles<K>,
         files: &Listing,
-    ) -> Result<(Vec<Digest>, Tie<K>), AllocError>
-        ensures lacking { IfOk result (λ told. AreMissing told.1 files.now.1 told.0.items) }
-        ensures digested { IfOk result (λ told. AreDigested told.1) }
-        ensures memory { OnErr result
-            ((known : Contents) × AreDigested known × IsSome (least_missing_of known files.now.1)) }
+    ) -> Result<Vec<Digest>, AllocError>
+        ensures lacking { IfOk result (λ digests. AreMissing known.new files.now.1 digests.items) }
+        ensures memory { OnErr result (IsSome (least_missing_of known.new files.now.1)) }
+        ensures digested { AreDigested known.new }
+        ensures files { IsWithin known.old known.new }
     {
-        let stock = self.stock.lock(rt);
+        let mut stock = self.stock.lock(rt);
+        stock.show(known);
         uploads_are_digested(stock.index());
-        let digests = missing(alloc, files, stock.index())?;
-        Ok((digests, stock.tie()))
+        missing(alloc, files, stock.index())
     }
 
     /// The receipt of all entries, for somebody who has seen a front that isn't shown: it begins with that. The lock of the book is held meanwhile.

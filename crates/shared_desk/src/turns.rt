@@ -14,7 +14,7 @@ use host_names::{Digest, FilePath, SiteName};
 use left_right::Absorb;
 use seen_lists::{Front, ListName};
 use site_change::{Command, Entry};
-use site_desk::{Book, DeskError, DeskName, Notice, Seat, Stock, Tie, UploadError};
+use site_desk::{Book, DeskError, DeskName, Notice, Seat, SeenFiles, Stock, UploadError};
 use std::sync::Wait;
 
 /// Learns of all uploads so far, and commits a command over them, from a seat. A front is told the entries that are there before.
@@ -117,7 +117,7 @@ fn learn_if_ready<
     book: &mut Book<J, K, D, T, R>,
     stock: &mut Stock<K>,
     seen: &mut Front<Entry, J>,
-    known: &mut Tie<K>,
+    known: &mut SeenFiles<K>,
     mine: &mut Seat<J>,
     site: &SiteName,
     number: u64,
@@ -132,7 +132,7 @@ fn learn_if_ready<
     ensures learnt { book.new ≡ with_known book.old stock.old }
     ensures made { mine.new ≡ mine.old }
 {
-    stock.tell(known);
+    stock.show(known);
     book.learn(stock);
     book.tell(seen);
     book.audit(mine);
@@ -152,7 +152,7 @@ pub(crate) fn publish_if_ready<
     book: &mut Book<J, K, D, T, R>,
     stock: &mut Stock<K>,
     seen: &mut Front<Entry, J>,
-    known: &mut Tie<K>,
+    known: &mut SeenFiles<K>,
     mine: &mut Seat<J>,
     site: &SiteName,
     number: u64,

@@ -4,6 +4,8 @@ ghost use Rattle.std.specs.Prelude.{◌≡◌, ◌↔◌, ◌+◌, ◌<◌, Err,
 ghost use Rattle.std.specs.FinMap as map;
 ghost use Rattle.host_names.specs.Digests.{digest_of};
 ghost use Rattle.blob_store.specs.Calls.{PutsFile};
+ghost use Rattle.blob_store.specs.Faults.{HasPutPart};
+ghost use Rattle.blob_store.specs.Receipts.{HasFailedPut};
 ghost use Rattle.blob_store.specs.declared.blobs.UploadFault.TheVariants as upload_fault;
 ghost use Rattle.change_log.specs.Logs.{BeginsWith, last_number};
 ghost use Rattle.shared_desk.specs.Uploads.{Judges, Publishes};
@@ -20,7 +22,7 @@ use host_names::{Digest, FilePath, SiteName};
 use left_right::Absorb;
 use seen_lists::{Front, ListName};
 use site_change::Entry;
-use site_desk::{DeskName, Notice, Seat, Stock, Tie, UploadError};
+use site_desk::{DeskName, Notice, Seat, SeenFiles, Stock, Tie, UploadError};
 use std::alloc::Global;
 use std::snapshot::Snapshot;
 use std::sync::{Arc, Mutex, Wait};
@@ -67,6 +69,8 @@ fn put<S: Shelf + Drop>(
     ensures large { (result ≡ Err upload_fault.TooLarge) ↔ (16777216 < length bytes.now) }
     ensures info { IfOk result (λ file. file.info.value ≡ bytes.now) }
     ensures put { IfOk result (λ file. PutsFile S.did map.empty file.before.value bytes.now None file.after.value) }
+    ensures not_put { IfErr result (λ fault.
+        (before : S) × (after : S) × HasPutPart S.did map.empty before bytes.now fault after) }
 {
     let before = Snapshot::of(&shelf);
     let mut files = Files::new(alloc, shelf);
@@ -98,6 +102,7 @@ impl<
         requires { digest ≡ digest_of bytes.now }
         ensures large { (result ≡ Err upload_fault.TooLarge) ↔ (16777216 < length bytes.now) }
         ensures known { IfOk result (λ known. IsSome (map.get known (digest_of bytes.now))) }
+        ensures device { result ≡ Err upload_fault.Device → HasFailedPut A.failed bytes.now }
     {
         let shelf = SharedShelf::new(rt, &self.files, access);
         let file = put(self.alloc, shelf, digest, bytes)?;
@@ -115,6 +120,7 @@ impl<
         requires { digest ≡ digest_of bytes.now }
         ensures large { (result ≡ Err upload_fault.TooLarge) ↔ (16777216 < length bytes.now) }
         ensures known { IfOk result (λ known. IsSome (map.get known (digest_of bytes.now))) }
+        ensures device { result ≡ Err upload_fault.Device → HasFailedPut A.failed bytes.now }
     {
         if bytes.len() > MAX_SIZE {
             return Err(UploadFault::TooLarge);
@@ -151,7 +157,7 @@ impl<
         &self,
         rt: &impl Wait,
         seen: &mut Front<Entry, J>,
-        known: &mut Tie<K>,
+        known: &mut SeenFiles<K>,
         mine: &mut Seat<J>,
         site: &SiteName,
         number: u64,

@@ -12,9 +12,9 @@ use Rattle.host_answers.specs.declared.stops.Stop.{Stop}
 use Rattle.host_answers.specs.declared.stops.Stop.TheVariants as stop
 use Rattle.host_answers.specs.declared.uploads.Uploaded.{Uploaded}
 use Rattle.shared_house.specs.declared.desk_access.Taken.{Taken}
-use Rattle.shared_house.specs.Desks.{DeskCall, Enters}
+use Rattle.shared_house.specs.Desks.{Asks, Enters, HouseCall}
 use Rattle.shared_house.specs.Entering.{IsEntryAnswer, reason_of_command, uploaded_of}
-use Rattle.shared_house.specs.Seeing.{by_front}
+use Rattle.shared_house.specs.Seeing.{Known, by_front}
 use Rattle.shared_house.specs.Shared.{CommitsAs}
 
 at_end : (entries : List Entry) (entry : Entry) → slice_get (entries ++ entry ∷ []) (length entries) ≡ Some entry
@@ -38,8 +38,8 @@ shown_taken entry before log receipt (Ok number) made last is = last_shown log b
 shown_taken entry before log receipt (Err why) made last is = tt
 
 -- a change that the desk makes an entry
-pub committed : (did : DeskCall → Type 0) (command : Command) (old log receipt : Log) (result : Result ℕ Stop) (new : Log) → BeginsWith log old
-    → did (Enters (Change command) log (Ok receipt)) → IsEntryAnswer (Change command) (reason_of_command command) log (Ok receipt)
+pub committed : (did : HouseCall → Type 0) (command : Command) (old : Known) (log receipt : Log) (result : Result ℕ Stop) (new : Known) → BeginsWith log old.log
+    → did (Asks (Enters (Change command) log (Ok receipt))) → IsEntryAnswer (Change command) (reason_of_command command) log (Ok receipt)
     → IfOk result (λ number. number ≡ last_number receipt) → IfErr result (λ why. why ≡ stop.OutOfMemory) → by_front.learns old receipt new
     → CommitsAs did by_front old command result new
 committed did command old log receipt (Ok number) new later asked answer last memory learnt =

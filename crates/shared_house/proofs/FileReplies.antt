@@ -19,7 +19,7 @@ use Rattle.host_replies.specs.Versions.{file_of}
 use Rattle.host_answers.proofs.FileReplies.{reads_of}
 use Rattle.host_answers.proofs.Growing.{StaysBy}
 use Rattle.host_answers.proofs.Growing as growing
-use Rattle.shared_house.specs.Desks.{DeskCall}
+use Rattle.shared_house.specs.Desks.{HouseCall}
 use Rattle.shared_house.specs.Seeing.{Seeing}
 use Rattle.shared_house.specs.Shared.{IsLegalRun, IsSharedAnswer, RespondsAs, fails, gives}
 
@@ -27,7 +27,7 @@ no_memory : (answer : Answer) → Tells (Refused OutOfMemory) answer → answer 
 no_memory answer (inl is) = is
 no_memory answer (inr (is, takes)) = is
 
-module _ {K : Type 0} (did : DeskCall → Type 0) (sees : Seeing K) where
+module _ {K : Type 0} (did : HouseCall → Type 0) (sees : Seeing K) where
   -- The answer to the reading of a file: over the state of one look, whose log begins with all that was seen. Or there is no memory.
   abbrev pub IsSharedFileReply : (old : K) → RequestParts → SiteName → Version → (path : List ℕ) → Answer → (new : K) → Type 0
   IsSharedFileReply old parts site version path answer new =
@@ -51,7 +51,7 @@ module _ {K : Type 0} (did : DeskCall → Type 0) (sees : Seeing K) where
     stays = λ k. refl;
     goes_on = λ first mid last one other. other ∙ one;
     gave_grows = λ old hold new is. is;
-    failed_grows = λ old file first last why new is. is;
+    failed_grows = λ old file first last why new is. is.1;
     commits = λ old command done new no. absurd no;
     undoes = λ old site change done new no. absurd no;
     uploads = λ old site n path bytes done new no. absurd no;

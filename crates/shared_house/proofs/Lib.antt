@@ -2,5 +2,5 @@ pub mod Fronts
 pub mod Entering
 pub mod FileReplies
 pub mod Standing
-pub mod Notes
+pub mod AllSeen
 pub mod Running

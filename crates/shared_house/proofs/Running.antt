@@ -27,46 +27,43 @@ use Rattle.host_answers.proofs.Growing as growing
 use Rattle.host_answers.proofs.Growing.{StaysBy}
 use Rattle.site_desk.specs.declared.errors.DeskError.{DeskError}
 use Rattle.site_desk.specs.declared.errors.DeskError.TheVariants as desk
-use Rattle.shared_house.specs.Desks.{DeskCall, Enters}
+use Rattle.shared_house.specs.Desks.{Asks, Enters, HouseCall}
 use Rattle.shared_house.specs.Entering.{IsEntryAnswer, IsJudged, learnt_of, reason_of_undo, told_of}
 use Rattle.shared_house.specs.Guests.{IsGuestAnswer}
-use Rattle.shared_house.specs.HouseLaws.{commits_known, goes_on, same_known, stays, takes_known, undoes_known}
+use Rattle.shared_house.specs.HouseLaws.{commits_known, goes_on, has_all, has_itself, looks_known, same_known, takes_known, undoes_known}
 use Rattle.shared_house.specs.Running.{IsReadReply, IsUndoReply, LeavesOut}
-use Rattle.shared_house.specs.Seeing.{by_front}
+use Rattle.shared_house.specs.Seeing.{HasAll, Known, by_front}
 use Rattle.shared_house.specs.Shared.{IsSharedAnswer, RespondsAs, UndoesAs, calls_over, fails, gives}
 use Rattle.shared_house.proofs.FileReplies.{file_reply}
 
 -- ---- what is known
 
-looked : (old shown mid : Log) → by_front.looks old shown mid → BeginsWith mid old
-looked old shown mid looks = subst (λ (l : Log). BeginsWith l old) (sym looks.1) looks.0
-
-module _ (did : DeskCall → Type 0) where
-  known_over : (seen : Seen) → StaysBy (λ (old new : Log). BeginsWith new old) (calls_over did by_front seen) (gives did by_front) (fails did by_front)
+module _ (did : HouseCall → Type 0) where
+  known_over : (seen : Seen) → StaysBy (λ (old new : Known). HasAll old new) (calls_over did by_front seen) (gives did by_front) (fails did by_front)
   known_over seen = record {
-    stays = stays;
-    goes_on = goes_on;
+    stays = has_itself;
+    goes_on = has_all;
     gave_grows = λ old hold new. same_known old new;
-    failed_grows = λ old file first last why new. same_known old new;
+    failed_grows = λ old file first last why new is. same_known old new is.1;
     commits = λ old command done new. commits_known did old command done new;
     undoes = λ old site change done new. undoes_known did old site change done new;
     uploads = λ old site n path bytes done new. takes_known did old site n path bytes done new;
   }
 
-  responds_known : (old : Log) (parts : RequestParts) (body : List ℕ) (asking : Result Ask Refusal) (answer : Answer) (new : Log)
-      → RespondsAs did by_front old parts body asking answer new → BeginsWith new old
+  responds_known : (old : Known) (parts : RequestParts) (body : List ℕ) (asking : Result Ask Refusal) (answer : Answer) (new : Known)
+      → RespondsAs did by_front old parts body asking answer new → HasAll old new
   responds_known old parts body (Err why) answer new (tells, is) = same_known old new is
   responds_known old parts body (Ok asked) answer new (inl (seen, mid, looks, run, is)) =
-      goes_on old mid new (looked old seen.entries mid looks)
-      (growing.does (λ (a b : Log). BeginsWith b a) (calls_over did by_front seen) (gives did by_front) (fails did by_front) (known_over seen) answer parts body mid asked new is)
+      has_all old mid new (looks_known old seen.entries mid looks)
+      (growing.does (λ (a b : Known). HasAll a b) (calls_over did by_front seen) (gives did by_front) (fails did by_front) (known_over seen) answer parts body mid asked new is)
   responds_known old parts body (Ok asked) answer new (inr (told, is)) = same_known old new is
 
-  answers_known : (old : Log) (parts : RequestParts) (body : List ℕ) (answer : Answer) (new : Log) → IsSharedAnswer did by_front old parts body answer new → BeginsWith new old
+  answers_known : (old : Known) (parts : RequestParts) (body : List ℕ) (answer : Answer) (new : Known) → IsSharedAnswer did by_front old parts body answer new → HasAll old new
   answers_known old parts body answer new (inl is) = responds_known old parts body (asked_for parts body) answer new is
   answers_known old parts body answer new (inr (takes, (tells, is))) = same_known old new is
 
-  pub later : (old new : Log) (parts : RequestParts) (body : List ℕ) (answer : Answer) → IsGuestAnswer did old parts body answer new → BeginsWith new old
-  later old new parts body answer (start, begins, is) = goes_on old start new begins (answers_known start parts body answer new is)
+  pub later : (old new : Known) (parts : RequestParts) (body : List ℕ) (answer : Answer) → IsGuestAnswer did old parts body answer new → HasAll old new
+  later old new parts body answer (start, begins, is) = has_all old start new begins (answers_known start parts body answer new is)
 
 -- ---- undos
 
@@ -85,18 +82,18 @@ leaves_out site k before (uploads, state, over, first) =
       without_it = subst (λ (cs : _). run_from uploads map.empty cs ≡ Some left.0) (live_changes-undo before site k) left.1;
     }
 
-module _ (did : DeskCall → Type 0) (site : SiteName) (k : ℕ) (old : Log) (answer : Answer) (new : Log) where
+module _ (did : HouseCall → Type 0) (site : SiteName) (k : ℕ) (old : Known) (answer : Answer) (new : Known) where
   -- by what the desk answers, at a log that begins with what was seen
-  by_answer : (log : Log) (made : Result Log (DeskError Log)) → BeginsWith log old → did (Enters (Undo site k) log made)
+  by_answer : (log : Log) (made : Result Log (DeskError Log)) → BeginsWith log old.log → did (Asks (Enters (Undo site k) log made))
       → IsEntryAnswer (Undo site k) (reason_of_undo site k) log made → Tells (told_entry (told_of made)) answer
-      → by_front.learns old (learnt_of log made) new → IsUndoReply did site k old answer new
+      → by_front.learns old (learnt_of log made) new → IsUndoReply did site k old.log answer new.log
   by_answer log (Ok receipt) later asked (judged, is) tells learnt =
       let next : length receipt ≡ next_number log = ap length is ∙ length-append log (Undo site k ∷ []) in inl (
         log,
         later,
         leaves_out site k log judged,
         subst (λ (n : ℕ). Tells (told.Entered n) answer) next tells,
-        subst (λ (l : Log). BeginsWith new l) is learnt.1,
+        subst (λ (l : Log). BeginsWith new.log l) is learnt.1,
       )
   by_answer log (Err (desk.Refused why seen)) later asked (judged, is) tells learnt = inr (inl (log, why, later, judged, tells, learnt.1))
   by_answer log (Err (desk.NoReceipt why)) later asked is tells learnt = inr (inr (inl tells))
@@ -104,12 +101,12 @@ module _ (did : DeskCall → Type 0) (site : SiteName) (k : ℕ) (old : Log) (an
   by_answer log (Err desk.Device) later asked is tells learnt = inr (inr (inr (inl (log, later, asked, tells))))
   by_answer log (Err desk.Broken) later asked is tells learnt = inr (inr (inr (inr (log, later, asked, tells))))
 
-  undoes : (done : Result ℕ Stop) → UndoesAs did by_front old site k done new → Tells (told_entry done) answer → IsUndoReply did site k old answer new
+  undoes : (done : Result ℕ Stop) → UndoesAs did by_front old site k done new → Tells (told_entry done) answer → IsUndoReply did site k old.log answer new.log
   undoes done (log, made, later, asked, is, same, learnt) tells =
       by_answer log made later asked is (subst (λ (d : Result ℕ Stop). Tells (told_entry d) answer) same tells) learnt
 
-module _ (did : DeskCall → Type 0) (old : Log) (answer : Answer) (new : Log) (parts : RequestParts) (body : List ℕ) where
-  -- a house that begins with a longer log
+-- a house that begins with a longer log
+module _ (did : HouseCall → Type 0) (old : Log) (answer : Answer) (new : Log) where
   undone_later : (site : SiteName) (k : ℕ) (start : Log) → BeginsWith start old → IsUndoReply did site k start answer new → IsUndoReply did site k old answer new
   undone_later site k start begins (inl (before, later, leaves, tells, seen)) = inl (before, goes_on old start before begins later, leaves, tells, seen)
   undone_later site k start begins (inr (inl (log, why, later, judged, tells, seen))) = inr (inl (log, why, goes_on old start log begins later, judged, tells, seen))
@@ -117,27 +114,28 @@ module _ (did : DeskCall → Type 0) (old : Log) (answer : Answer) (new : Log) (
   undone_later site k start begins (inr (inr (inr (inl (log, later, asked, tells))))) = inr (inr (inr (inl (log, goes_on old start log begins later, asked, tells))))
   undone_later site k start begins (inr (inr (inr (inr (log, later, asked, tells))))) = inr (inr (inr (inr (log, goes_on old start log begins later, asked, tells))))
 
-  undo_answers : (site : SiteName) (k : ℕ) → RespondsAs did by_front old parts body (Ok (ask.Undo site k)) answer new → IsUndoReply did site k old answer new
+module _ (did : HouseCall → Type 0) (old : Known) (answer : Answer) (new : Known) (parts : RequestParts) (body : List ℕ) where
+  undo_answers : (site : SiteName) (k : ℕ) → RespondsAs did by_front old parts body (Ok (ask.Undo site k)) answer new → IsUndoReply did site k old.log answer new.log
   undo_answers site k (inl (seen, mid, looks, run, (done, is, tells))) =
-      undone_later site k mid (looked old seen.entries mid looks) (undoes did site k mid answer new done is tells)
+      undone_later did old.log answer new.log site k mid.log (looks_known old seen.entries mid looks).log (undoes did site k mid answer new done is tells)
   undo_answers site k (inr (is, same)) = inr (inr (inl (inl is)))
 
   undo_shared : (site : SiteName) (k : ℕ) → asked_for parts body ≡ Ok (ask.Undo site k) → IsSharedAnswer did by_front old parts body answer new
-      → IsUndoReply did site k old answer new
+      → IsUndoReply did site k old.log answer new.log
   undo_shared site k asks (inl is) = undo_answers site k (subst (λ (r : Result Ask Refusal). RespondsAs did by_front old parts body r answer new) asks is)
   undo_shared site k asks (inr (takes, (tells, is))) = inr (inr (inl tells))
 
-pub undo_reply : (did : DeskCall → Type 0) (old new : Log) (parts : RequestParts) (body : List ℕ) (answer : Answer) (site : SiteName) (k : ℕ)
-    → asked_for parts body ≡ Ok (ask.Undo site k) → IsGuestAnswer did old parts body answer new → IsUndoReply did site k old answer new
+pub undo_reply : (did : HouseCall → Type 0) (old new : Known) (parts : RequestParts) (body : List ℕ) (answer : Answer) (site : SiteName) (k : ℕ)
+    → asked_for parts body ≡ Ok (ask.Undo site k) → IsGuestAnswer did old parts body answer new → IsUndoReply did site k old.log answer new.log
 undo_reply did old new parts body answer site k asks (start, begins, is) =
-    undone_later did old answer new parts body site k start begins (undo_shared did start answer new parts body site k asks is)
+    undone_later did old.log answer new.log site k start.log begins.log (undo_shared did start answer new parts body site k asks is)
 
 -- ---- reads
 
-pub read_reply : (did : DeskCall → Type 0) (old new : Log) (parts : RequestParts) (body : List ℕ) (answer : Answer) (site : SiteName) (version : Version) (path : List ℕ)
-    → asked_for parts body ≡ Ok (ask.Read site version path) → IsGuestAnswer did old parts body answer new → IsReadReply old parts site version path answer new
+pub read_reply : (did : HouseCall → Type 0) (old new : Known) (parts : RequestParts) (body : List ℕ) (answer : Answer) (site : SiteName) (version : Version) (path : List ℕ)
+    → asked_for parts body ≡ Ok (ask.Read site version path) → IsGuestAnswer did old parts body answer new → IsReadReply old.log parts site version path answer new.log
 read_reply did old new parts body answer site version path asks (start, begins, is) =
-    elim (file_reply did by_front start new parts body site version path answer asks is) as (λ r. IsReadReply old parts site version path answer new) [
-      | inl over ↦ inl (over.0, goes_on old start over.0.entries begins over.1.0, over.1.1, over.2, over.3)
+    elim (file_reply did by_front start new parts body site version path answer asks is) as (λ r. IsReadReply old.log parts site version path answer new.log) [
+      | inl over ↦ inl (over.0, goes_on old.log start.log over.0.entries begins.log over.1.0, ap (λ (k : Known). k.log) over.1.1, over.2, over.3)
       | inr none ↦ inr (inl none.0)
     ]

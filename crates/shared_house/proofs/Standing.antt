@@ -3,6 +3,7 @@ use Rattle.std.proofs.Common.{◌≡◌, inl, inr, ℕ, List, [], ◌∷◌, Boo
 use Rattle.std.specs.declared.alloc.AllocError.{AllocError}
 use Rattle.host_names.specs.declared.digests.Digest.{Digest}
 use Rattle.host_names.specs.declared.names.SiteName.{SiteName}
+use Rattle.byte_view.specs.Contents.{Contents}
 use Rattle.site_state.specs.Files.{Paths}
 use Rattle.site_state.specs.States.{draft_at, kept_at}
 use Rattle.site_state.specs.declared.values.Draft.{Draft}
@@ -25,19 +26,22 @@ use Rattle.host_answers.specs.Reads.{ReadsBy}
 use Rattle.host_answers.specs.declared.stops.Stop.{Stop}
 use Rattle.host_answers.specs.declared.uploads.Uploaded.{Uploaded}
 use Rattle.host_answers.proofs.Seen.{reads_as}
-use Rattle.shared_house.specs.Desks.{DeskCall}
+use Rattle.shared_house.specs.Desks.{HouseCall}
 use Rattle.shared_house.specs.Entering.{Reason, learnt_of, learnt_of_upload, reason_of_command, reason_of_undo}
 use Rattle.shared_house.specs.Seeing.{Seeing}
-use Rattle.shared_house.specs.Shared.{CommitsAs, EntersAs, IsSharedAnswer, RespondsAs, TakesAs, calls_over, fails, gives}
+use Rattle.shared_house.specs.Shared.{CommitsAs, EntersAs, IsSharedAnswer, LacksAs, RespondsAs, TakesAs, calls_over, fails, gives}
 use Rattle.shared_house.proofs.FileReplies.{kept_by_read}
 
--- a log that is later than all that the one saw is later than all that the other saw; and each look of the one is a look of the other, and so is what is learnt
+-- a log that is later than all that the one saw is later than all that the other saw, and so for files; and each look of the one is a look of the other, and so is
+-- what is learnt and found
 pub record StandsFor {H K : Type 0} (narrow : Seeing H) (wide : Seeing K) (R : H → K → Type 0) : Type 0 where
   pub is_later : (old : H) (all : K) (log : Log) → R old all → narrow.is_later old log → wide.is_later all log
   pub looks : (old : H) (all : K) (log : Log) (new : H) → R old all → narrow.looks old log new → (after : K) × wide.looks all log after × R new after
   pub learns : (old : H) (all : K) (log : Log) (new : H) → R old all → narrow.learns old log new → (after : K) × wide.learns all log after × R new after
+  pub are_all : (old : H) (all : K) (files : Contents) → R old all → narrow.are_all old files → wide.are_all all files
+  pub finds : (old : H) (all : K) (files : Contents) (new : H) → R old all → narrow.finds old files new → (after : K) × wide.finds all files after × R new after
 
-module _ {H K : Type 0} (did : DeskCall → Type 0) (narrow : Seeing H) (wide : Seeing K) (R : H → K → Type 0) (by : StandsFor narrow wide R) where
+module _ {H K : Type 0} (did : HouseCall → Type 0) (narrow : Seeing H) (wide : Seeing K) (R : H → K → Type 0) (by : StandsFor narrow wide R) where
   same : (old new : H) (all : K) → R old all → new ≡ old → R new all
   same old new all r is = subst (λ (h : H). R h all) (sym is) r
 
@@ -61,9 +65,14 @@ module _ {H K : Type 0} (did : DeskCall → Type 0) (narrow : Seeing H) (wide : 
   takes : (old : H) (all : K) (site : SiteName) (n : ℕ) (path bytes : List ℕ) (done : Result Uploaded Refusal) (new : H) → R old all
       → TakesAs did narrow old site n path bytes done new
       → (after : K) × TakesAs did wide all site n path bytes done after × R new after
-  takes old all site n path bytes done new r (first, last, answer, later, begins, asked, is, tells, learnt) =
-      let more = by.learns old all (learnt_of_upload last answer) new r learnt in
-      (more.0, (first, last, answer, by.is_later old all first r later, begins, asked, is, tells, more.1), more.2)
+  takes old all site n path bytes done new r (first, last, files, answer, mid, later, begins, whole, asked, is, tells, found, learnt) =
+      let more = by.finds old all files mid r found in
+      let then = by.learns mid more.0 (learnt_of_upload last answer) new more.2 learnt in
+      (then.0, (first, last, files, answer, more.0, by.is_later old all first r later, begins, by.are_all old all files r whole, asked, is, tells, more.1, then.1), then.2)
+
+  lacking : (old : H) (all : K) (listed : Paths (Option Digest)) (required : Result (List Digest) AllocError) → R old all → LacksAs did narrow old listed required
+      → LacksAs did wide all listed required
+  lacking old all listed required r (files, digested, whole, asked, is) = (files, digested, by.are_all old all files r whole, asked, is)
 
   -- ---- what is done
 
@@ -88,7 +97,7 @@ module _ {H K : Type 0} (did : DeskCall → Type 0) (narrow : Seeing H) (wide : 
         → (after : K) × FollowsBy (calls_over did wide seen) all opening done answer after × R new after
     follows old all (Some opening) (Ok id) new r (required, misses, is) =
         let more = lacks old all opening id required new r is in
-        (more.0, (required, misses, more.1), more.2)
+        (more.0, (required, lacking old all opening.files required r misses, more.1), more.2)
     follows old all (Some opening) (Err why) new r (tells, is) = (all, (tells, refl), same old new all r is)
     follows old all None (Ok id) new r (tells, is) = (all, (tells, refl), same old new all r is)
     follows old all None (Err why) new r (tells, is) = (all, (tells, refl), same old new all r is)
@@ -115,7 +124,8 @@ module _ {H K : Type 0} (did : DeskCall → Type 0) (narrow : Seeing H) (wide : 
     shows : (old : H) (all : K) (site : SiteName) (n : ℕ) (draft : Option Draft) (tree : Option (Paths (List ℕ))) (new : H) → R old all
         → ShowsBy (calls_over did narrow seen) old site n draft tree answer new
         → (after : K) × ShowsBy (calls_over did wide seen) all site n draft tree answer after × R new after
-    shows old all site n (Some draft) tree new r (required, misses, (tells, is)) = (all, (required, misses, (tells, refl)), same old new all r is)
+    shows old all site n (Some draft) tree new r (required, misses, (tells, is)) =
+        (all, (required, lacking old all draft.files.1 required r misses, (tells, refl)), same old new all r is)
     shows old all site n None (Some tree) new r (tells, is) = (all, (tells, refl), same old new all r is)
     shows old all site n None None new r (tells, is) = (all, (tells, refl), same old new all r is)
 
@@ -131,7 +141,7 @@ module _ {H K : Type 0} (did : DeskCall → Type 0) (narrow : Seeing H) (wide : 
     reads old all parts path found new r is = (
       all,
       reads_as (λ (h : H). all) (gives did narrow) (fails did narrow) (gives did wide) (fails did wide)
-          (record { gave_is = λ before hold next same. refl; failed_is = λ before file first last why next same. refl }) old parts path found answer new is,
+          (record { gave_is = λ before hold next same. refl; failed_is = λ before file first last why next same. (same.0, refl) }) old parts path found answer new is,
       same old new all r (kept_by_read did narrow old new parts path found answer is),
     )
 

@@ -1,5 +1,5 @@
 -- What a desk answers, in terms of its logs.
-use Rattle.std.specs.Prelude.{◌≡◌, ◌≢◌, ◌↔◌, ◌<◌, ℕ, true, false, List, length, Option, Some, None, IsSome, Result, Ok, Err, option_map}
+use Rattle.std.specs.Prelude.{◌≡◌, ◌≢◌, ◌↔◌, ◌<◌, ℕ, Bool, true, false, List, length, Option, Some, None, IsSome, Result, Ok, Err, option_map}
 use Rattle.std.specs.FinMap as map
 use Rattle.std.specs.declared.alloc.AllocError.{AllocError}
 use Rattle.blob_store.specs.declared.blobs.UploadFault.{UploadFault}
@@ -105,34 +105,35 @@ ListsOthers log site n path bytes = (listed : Digest) × (listed ≢ digest_of b
 abbrev pub MayStore : Log → SiteName → ℕ → (path bytes : List ℕ) → Type 0
 MayStore log site n path bytes = ListsThem log site n path bytes × ¬ (16777216 < length bytes)
 
--- the file of these bytes is known then, and the deploy isn't ready
-abbrev pub IsUnready : Log → SiteName → ℕ → (bytes : List ℕ) → Type 0
-IsUnready log site n bytes =
-    IsSoAt log (λ uploads state. IsSome (map.get uploads (digest_of bytes)) × (is_ready_draft uploads (draft_at state site n) ≡ false))
+-- over these uploads a log is legal, and this says whether a site's deploy is ready
+abbrev pub IsReady : Log → (files : Contents) → SiteName → ℕ → Bool → Type 0
+IsReady log files site n ready = (state : State) × IsRunOver files log state × (is_ready_draft files (draft_at state site n) ≡ ready)
 
--- it is, and it is published or not, as any entry is made or not
-abbrev pub IsPublishAnswer : Log → SiteName → ℕ → Result Log (DeskError Log) → Type 0
-IsPublishAnswer log site n result =
-    IsSoAt log (λ uploads state. is_ready_draft uploads (draft_at state site n) ≡ true)
-    × IsEntryAnswer (Change (Publish site n)) (reason_of_command (Publish site n)) log result
+-- What comes of the publishing once these files are known: the deploy isn't ready; or it is, and is published or not, as any entry is made or not.
+abbrev pub IsPublishing : Log → (files : Contents) → SiteName → ℕ → Result (Option Log) (DeskError Log) → Type 0
+IsPublishing log files site n (Ok None) = IsReady log files site n false
+IsPublishing log files site n (Ok (Some receipt)) =
+    IsReady log files site n true × IsEntryAnswer (Change (Publish site n)) (reason_of_command (Publish site n)) log (Ok receipt)
+IsPublishing log files site n (Err why) =
+    IsReady log files site n true × IsEntryAnswer (Change (Publish site n)) (reason_of_command (Publish site n)) log (Err why)
 
--- what comes of the publishing once the file is known
-abbrev pub IsPublishing : Log → SiteName → ℕ → (bytes : List ℕ) → Option Log → Type 0
-IsPublishing log site n bytes None = IsUnready log site n bytes
-IsPublishing log site n bytes (Some receipt) = IsPublishAnswer log site n (Ok receipt)
+-- the deploy lists the digest of these bytes, and their file is one of those that are known at last
+abbrev pub IsStored : (first : Log) → (files : Contents) → SiteName → ℕ → (path bytes : List ℕ) → Type 0
+IsStored first files site n path bytes = MayStore first site n path bytes × IsSome (map.get files (digest_of bytes))
 
--- What it answers to an upload of these bytes to a path of a deploy, first at a log, and at last at one that begins with that: that they are taken, with
--- their digest, and what comes of the publishing; or the first reason against that.
-abbrev pub IsUploadAnswer : SiteName → ℕ → (path bytes : List ℕ) → (first last : Log) → Result (Taken Log) (UploadError Log) → Type 0
-IsUploadAnswer site n path bytes first last (Ok taken) =
-    MayStore first site n path bytes × (taken.digest ≡ digest_of bytes) × IsPublishing last site n bytes taken.published
-IsUploadAnswer site n path bytes first last (Err upload.Broken) = Unit {0}
-IsUploadAnswer site n path bytes first last (Err upload.NoSuchDeploy) = Lists first site n path None
-IsUploadAnswer site n path bytes first last (Err upload.NotListed) = Lists first site n path (Some None)
-IsUploadAnswer site n path bytes first last (Err upload.WrongDigest) = ListsOthers first site n path bytes
-IsUploadAnswer site n path bytes first last (Err (upload.NotStored why)) =
+-- What it answers to an upload of these bytes to a path of a deploy, first at a log, and at last at one that begins with that and over these files: that the
+-- bytes are taken, with their digest, and what comes of the publishing; or the first reason against that.
+abbrev pub IsUploadAnswer : SiteName → ℕ → (path bytes : List ℕ) → (first last : Log) → (files : Contents) → Result (Taken Log) (UploadError Log) → Type 0
+IsUploadAnswer site n path bytes first last files (Ok taken) =
+    IsStored first files site n path bytes × (taken.digest ≡ digest_of bytes) × IsPublishing last files site n (Ok taken.published)
+IsUploadAnswer site n path bytes first last files (Err upload.Broken) = Unit {0}
+IsUploadAnswer site n path bytes first last files (Err upload.NoSuchDeploy) = Lists first site n path None
+IsUploadAnswer site n path bytes first last files (Err upload.NotListed) = Lists first site n path (Some None)
+IsUploadAnswer site n path bytes first last files (Err upload.WrongDigest) = ListsOthers first site n path bytes
+IsUploadAnswer site n path bytes first last files (Err (upload.NotStored why)) =
     ListsThem first site n path bytes × ((why ≡ fault.TooLarge) ↔ (16777216 < length bytes))
-IsUploadAnswer site n path bytes first last (Err (upload.NotPublished why)) = MayStore first site n path bytes × IsPublishAnswer last site n (Err why)
+IsUploadAnswer site n path bytes first last files (Err (upload.NotPublished why)) =
+    IsStored first files site n path bytes × IsPublishing last files site n (Err why)
 
 -- what is told of that
 abbrev pub refusal_of_fault : UploadFault → Refusal
@@ -163,7 +164,7 @@ learnt_of_upload log (Err error) = log
 
 -- ---- what a deploy lacks
 
--- the listed digests that some uploads lack
-abbrev pub IsLackAnswer : Paths (Option Digest) → Result (List Digest) AllocError → Type 0
-IsLackAnswer files (Ok required) = (uploads : Contents) × AreDigested uploads × AreMissing uploads files required
-IsLackAnswer files (Err why) = (uploads : Contents) × AreDigested uploads × IsSome (least_missing_of uploads files)
+-- which of the listed digests these files lack; or there is no memory for that, though there is one
+abbrev pub IsLackAnswer : (files : Contents) → (listed : Paths (Option Digest)) → Result (List Digest) AllocError → Type 0
+IsLackAnswer files listed (Ok required) = AreMissing files listed required
+IsLackAnswer files listed (Err why) = IsSome (least_missing_of files listed)

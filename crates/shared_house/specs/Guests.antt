@@ -1,12 +1,11 @@
 -- What a worker answers a connection that comes with a note.
 use Rattle.std.specs.Prelude.{ℕ, List}
 use Rattle.http_wire.specs.Requests.{RequestParts}
-use Rattle.change_log.specs.Logs.{BeginsWith, Log}
 use Rattle.host_replies.specs.Replies.{Answer}
-use Rattle.shared_house.specs.Desks.{DeskCall}
-use Rattle.shared_house.specs.Seeing.{by_front}
+use Rattle.shared_house.specs.Desks.{HouseCall}
+use Rattle.shared_house.specs.Seeing.{HasAll, Known, by_front}
 use Rattle.shared_house.specs.Shared.{IsSharedAnswer}
 
--- The worker learns the note, which makes it know a log that begins with that; it answers, and the note is then the longest log that it knows.
-abbrev pub IsGuestAnswer : (did : DeskCall → Type 0) → (old : Log) → RequestParts → (body : List ℕ) → Answer → (new : Log) → Type 0
-IsGuestAnswer did old parts body answer new = (start : Log) × BeginsWith start old × IsSharedAnswer did by_front start parts body answer new
+-- The worker learns the note, and knows all of it then; it answers, and the note is then what it knows.
+abbrev pub IsGuestAnswer : (did : HouseCall → Type 0) → (old : Known) → RequestParts → (body : List ℕ) → Answer → (new : Known) → Type 0
+IsGuestAnswer did old parts body answer new = (start : Known) × HasAll old start × IsSharedAnswer did by_front start parts body answer new

@@ -19,7 +19,7 @@ use Rattle.host_replies.specs.Versions.{file_of}
 use Rattle.host_answers.specs.FileReplies.{IsFileReply}
 use Rattle.host_answers.specs.Houses.{Seen}
 use Rattle.site_desk.specs.declared.errors.DeskError.TheVariants as desk
-use Rattle.shared_house.specs.Desks.{DeskCall, Enters}
+use Rattle.shared_house.specs.Desks.{Asks, Enters, HouseCall}
 use Rattle.shared_house.specs.Entering.{IsJudged, IsRunOver, reason_of_undo}
 use Rattle.shared_house.specs.Shared.{IsLegalRun}
 
@@ -45,13 +45,13 @@ IsUndoRefused site k old answer new =
     × Tells (Refused (Change why)) answer × BeginsWith new log
 
 -- it is told that there is no memory; or that the journal's device failed, as the desk answered: though nothing is against the undo, or before
-abbrev pub IsUnable : (did : DeskCall → Type 0) → SiteName → ℕ → (old : Log) → Answer → Type 0
+abbrev pub IsUnable : (did : HouseCall → Type 0) → SiteName → ℕ → (old : Log) → Answer → Type 0
 IsUnable did site k old answer =
     Tells (Refused OutOfMemory) answer
-    ⊎ ((log : Log) × BeginsWith log old × did (Enters (Undo site k) log (Err desk.Device)) × Tells (Refused Device) answer)
-    ⊎ ((log : Log) × BeginsWith log old × did (Enters (Undo site k) log (Err desk.Broken)) × Tells (Refused Broken) answer)
+    ⊎ ((log : Log) × BeginsWith log old × did (Asks (Enters (Undo site k) log (Err desk.Device))) × Tells (Refused Device) answer)
+    ⊎ ((log : Log) × BeginsWith log old × did (Asks (Enters (Undo site k) log (Err desk.Broken))) × Tells (Refused Broken) answer)
 
-abbrev pub IsUndoReply : (did : DeskCall → Type 0) → SiteName → ℕ → (old : Log) → Answer → (new : Log) → Type 0
+abbrev pub IsUndoReply : (did : HouseCall → Type 0) → SiteName → ℕ → (old : Log) → Answer → (new : Log) → Type 0
 IsUndoReply did site k old answer new = IsUndone site k old answer new ⊎ IsUndoRefused site k old answer new ⊎ IsUnable did site k old answer
 
 -- ---- a read

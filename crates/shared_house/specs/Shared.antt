@@ -3,7 +3,7 @@ use Rattle.std.specs.Prelude.{◌≡◌, ◌⊎◌, ℕ, List, Option, Result, O
 use Rattle.std.specs.declared.alloc.AllocError.{AllocError}
 use Rattle.host_names.specs.declared.digests.Digest.{Digest}
 use Rattle.host_names.specs.declared.names.SiteName.{SiteName}
-use Rattle.byte_view.specs.Contents.{Contents}
+use Rattle.byte_view.specs.Contents.{AreDigested, Contents}
 use Rattle.site_state.specs.Files.{Paths}
 use Rattle.site_change.specs.declared.commands.Command.{Command}
 use Rattle.change_log.specs.Logs.{BeginsWith, Log}
@@ -24,7 +24,7 @@ use Rattle.host_answers.specs.declared.uploads.Uploaded.{Uploaded}
 use Rattle.site_desk.specs.declared.errors.DeskError.{DeskError}
 use Rattle.site_desk.specs.declared.upload_errors.UploadError.{UploadError}
 use Rattle.shared_house.specs.declared.desk_access.Taken.{Taken}
-use Rattle.shared_house.specs.Desks.{DeskCall, Enters, Lacks, Takes}
+use Rattle.shared_house.specs.Desks.{Asks, Enters, HouseCall, Lacks, LacksHold, Takes}
 use Rattle.shared_house.specs.Entering.{IsEntryAnswer, IsLackAnswer, IsRunOver, IsUploadAnswer, Reason, learnt_of, learnt_of_upload, reason_of_command, reason_of_undo, told_of, uploaded_of}
 use Rattle.shared_house.specs.Seeing.{Seeing}
 
@@ -32,14 +32,14 @@ use Rattle.shared_house.specs.Seeing.{Seeing}
 abbrev pub IsLegalRun : Seen → Type 0
 IsLegalRun seen = (uploads : Contents) × IsRunOver uploads seen.entries seen.state
 
--- What a house answers that shows what it sees (`sees`) and asks a desk, where `did` says which calls of the desk were made.
-module _ {K : Type 0} (did : DeskCall → Type 0) (sees : Seeing K) where
+-- What a house answers that shows what it sees (`sees`) and asks a desk, where `did` says which calls of the desk were made, and which files weren't held.
+module _ {K : Type 0} (did : HouseCall → Type 0) (sees : Seeing K) where
   -- ---- changes
 
   -- What comes of an entry: the desk is asked to make it, and answers at a log that begins with all that was seen. That is told, and learnt.
   abbrev pub EntersAs : Entry → Reason → (old : K) → Result ℕ Stop → (new : K) → Type 0
   EntersAs entry reason old done new =
-      (log : Log) × (answer : Result Log (DeskError Log)) × sees.is_later old log × did (Enters entry log answer)
+      (log : Log) × (answer : Result Log (DeskError Log)) × sees.is_later old log × did (Asks (Enters entry log answer))
       × IsEntryAnswer entry reason log answer × (done ≡ told_of answer) × sees.learns old (learnt_of log answer) new
 
   -- Once a change is an entry, there may be no memory to show it.
@@ -53,17 +53,19 @@ module _ {K : Type 0} (did : DeskCall → Type 0) (sees : Seeing K) where
 
   -- ---- uploads
 
-  -- What comes of an upload to a path of a deploy: the desk is asked to take it, and answers at two logs, each of which begins with all that was seen. That
-  -- is told, and learnt.
+  -- What comes of an upload to a path of a deploy: the desk is asked to take it, and answers at two logs, each of which begins with all that was seen, and over
+  -- files that have all that were seen. That is told, and learnt.
   abbrev pub TakesAs : (old : K) → SiteName → ℕ → (path bytes : List ℕ) → Result Uploaded Refusal → (new : K) → Type 0
   TakesAs old site n path bytes done new =
-      (first : Log) × (last : Log) × (answer : Result (Taken Log) (UploadError Log)) × sees.is_later old first × BeginsWith last first
-      × did (Takes site n path bytes last answer) × IsUploadAnswer site n path bytes first last answer
-      × (done ≡ uploaded_of answer) × sees.learns old (learnt_of_upload last answer) new
+      (first : Log) × (last : Log) × (files : Contents) × (answer : Result (Taken Log) (UploadError Log)) × (mid : K)
+      × sees.is_later old first × BeginsWith last first × sees.are_all old files
+      × did (Asks (Takes site n path bytes last files answer)) × IsUploadAnswer site n path bytes first last files answer
+      × (done ≡ uploaded_of answer) × sees.finds old files mid × sees.learns mid (learnt_of_upload last answer) new
 
-  -- what a deploy lacks that lists these files: the desk is asked, and that is told
-  abbrev pub LacksAs : Paths (Option Digest) → Result (List Digest) AllocError → Type 0
-  LacksAs files required = did (Lacks files required) × IsLackAnswer files required
+  -- what a deploy lacks that lists these: the desk is asked, and answers over files that have all that were seen, each under its own digest; and that is told
+  abbrev pub LacksAs : (old : K) → Paths (Option Digest) → Result (List Digest) AllocError → Type 0
+  LacksAs old listed required =
+      (files : Contents) × AreDigested files × sees.are_all old files × did (Asks (Lacks listed files required)) × IsLackAnswer files listed required
 
   -- ---- answers
 
@@ -72,18 +74,18 @@ module _ {K : Type 0} (did : DeskCall → Type 0) (sees : Seeing K) where
   calls_over seen = record {
     seen = λ k. seen;
     looks = λ old done new. ⊥;
-    misses = λ k files required. LacksAs files required;
+    misses = λ k listed required. LacksAs k listed required;
     commits = CommitsAs;
     undoes = UndoesAs;
     uploads = λ old site n path bytes done new. TakesAs old site n path bytes done new;
   }
 
-  -- nothing is learnt where files are held
+  -- nothing is learnt where files are held, or aren't; why not is shown
   abbrev pub gives : Gave K
   gives old hold new = new ≡ old
 
   abbrev pub fails : Failed K
-  fails old file first last why new = new ≡ old
+  fails old file first last why new = did (LacksHold file first last why) × (new ≡ old)
 
   -- after a look the answer is over what that shows; there may be no memory for the look
   abbrev pub RespondsAs : (old : K) → RequestParts → (body : List ℕ) → Result Ask Refusal → Answer → (new : K) → Type 0

@@ -1,9 +1,9 @@
 //! A house answers requests.
 ghost use Rattle.std.specs.Prelude.{◌≡◌, ℕ, List};
-ghost use Rattle.change_log.specs.Logs.{BeginsWith};
 ghost use Rattle.shared_house.specs.HouseLaws as laws;
 ghost use Rattle.shared_house.specs.Houses.{calls_of, failed_at, gave_at};
-ghost use Rattle.shared_house.specs.Seeing.{by_front};
+ghost use Rattle.shared_house.specs.Desks.{shows};
+ghost use Rattle.shared_house.specs.Seeing.{HasAll, by_front};
 ghost use Rattle.shared_house.specs.Shared.{IsSharedAnswer};
 
 use crate::desk_access::DeskAccess;
@@ -19,29 +19,32 @@ use host_connection::{Request, Service};
 use host_names::{Digest, FilePath, SiteName};
 use host_replies::Reply;
 use http_wire::Head;
+use seen_lists::ListName;
 use site_change::{Command, Entry};
 use site_desk::DeskName;
 use site_state::{Listing, State};
 use std::alloc::{AllocError, Global};
 use std::sync::Arc;
 
-impl<J: DeskName, D: DeskAccess<J>, G: FileAccess> Holder for SharedHouse<J, D, G> {
+impl<J: DeskName, K: ListName<BlobInfo>, D: DeskAccess<J, K>, G: FileAccess> Holder
+    for SharedHouse<J, K, D, G> {
     ghost gave = { gave_at };
 
-    ghost failed = { failed_at };
+    ghost failed = { failed_at (shows D.did G.fails) };
 
     fn hold(&mut self, info: Arc<BlobInfo>, first: usize, last: usize) -> Result<Hold, ReadFault> {
         self.files.hold(info, first, last)
     }
 }
 
-impl<J: DeskName, D: DeskAccess<J>, G: FileAccess> House for SharedHouse<J, D, G> {
-    ghost calls = { calls_of D.did };
+impl<J: DeskName, K: ListName<BlobInfo>, D: DeskAccess<J, K>, G: FileAccess> House
+    for SharedHouse<J, K, D, G> {
+    ghost calls = { calls_of (shows D.did G.fails) };
 
     ghost answers = { λ old parts body answer new.
-        IsSharedAnswer D.did by_front old.known parts body answer new.known };
+        IsSharedAnswer (shows D.did G.fails) by_front old.known parts body answer new.known };
 
-    ghost grows = { λ old new. BeginsWith new.known old.known };
+    ghost grows = { λ old new. HasAll old.known new.known };
 
     fn asked_for(&self, alloc: Global, head: &Head, body: &[u8]) -> Result<Ask, Refusal> {
         self.desk.asked_for(alloc, head, body)
@@ -72,7 +75,8 @@ impl<J: DeskName, D: DeskAccess<J>, G: FileAccess> House for SharedHouse<J, D, G
     }
 
     fn missing(&self, alloc: Global, files: &Listing) -> Result<Items<Digest>, AllocError> {
-        self.desk.missing(alloc, files)
+        self.desk
+            .missing(alloc, &mut self.seen_files.again(), files)
     }
 
     fn commit(&mut self, command: Command) -> Result<u64, Stop> {
@@ -99,33 +103,38 @@ impl<J: DeskName, D: DeskAccess<J>, G: FileAccess> House for SharedHouse<J, D, G
         bytes: &[u8],
     ) -> Result<Uploaded, Refusal> {
         let mut seen = self.visitor.front();
-        match self.desk.upload(&mut seen, site, deploy, path, bytes) {
+        let mut known = self.seen_files.again();
+        match self
+            .desk
+            .upload(&mut seen, &mut known, site, deploy, path, bytes)
+        {
             Ok(taken) => Ok(Uploaded {
                 digest: taken.digest,
-                published: self.learn_taken(&seen, taken.published),
+                published: self.learn_taken(&seen, &known, taken.published),
             }),
-            Err(why) => Err(self.not_taken(&seen, why)),
+            Err(why) => Err(self.not_taken(&seen, &known, why)),
         }
     }
 
-    ghost told = { laws.told D.did };
+    ghost told = { laws.told (shows D.did G.fails) };
 
-    ghost grew = { laws.grew D.did };
+    ghost grew = { laws.grew (shows D.did G.fails) };
 
     ghost withheld = { λ old parts body answer new.
-        laws.withheld_to_head D.did by_front old.known parts body answer new.known };
+        laws.withheld_to_head (shows D.did G.fails) by_front old.known parts body answer new.known };
 
-    ghost stays = { λ house. laws.stays house.known };
+    ghost stays = { λ house. laws.has_itself house.known };
 
-    ghost goes_on = { λ first mid last. laws.goes_on first.known mid.known last.known };
+    ghost goes_on = { λ first mid last. laws.has_all first.known mid.known last.known };
 }
 
 /// A house answers the requests of a connection.
-impl<J: DeskName, D: DeskAccess<J>, G: FileAccess> Service for SharedHouse<J, D, G> {
+impl<J: DeskName, K: ListName<BlobInfo>, D: DeskAccess<J, K>, G: FileAccess> Service
+    for SharedHouse<J, K, D, G> {
     ghost answers = { λ old parts body answer new.
-        IsSharedAnswer D.did by_front old.known parts body answer new.known };
+        IsSharedAnswer (shows D.did G.fails) by_front old.known parts body answer new.known };
 
-    ghost grows = { λ old new. BeginsWith new.known old.known };
+    ghost grows = { λ old new. HasAll old.known new.known };
 
     ghost postpones = { ⊥ };
 
@@ -135,9 +144,9 @@ impl<J: DeskName, D: DeskAccess<J>, G: FileAccess> Service for SharedHouse<J, D,
     }
 
     ghost withheld = { λ old parts body answer new.
-        laws.withheld_to_head D.did by_front old.known parts body answer new.known };
+        laws.withheld_to_head (shows D.did G.fails) by_front old.known parts body answer new.known };
 
-    ghost stays = { λ house. laws.stays house.known };
+    ghost stays = { λ house. laws.has_itself house.known };
 
-    ghost goes_on = { λ first mid last. laws.goes_on first.known mid.known last.known };
+    ghost goes_on = { λ first mid last. laws.has_all first.known mid.known last.known };
 }

@@ -5,14 +5,18 @@ ghost use Rattle.site_change.specs.declared.entries.Entry.TheVariants as entry;
 ghost use Rattle.host_answers.specs.Asking as asking;
 ghost use Rattle.host_api.specs.declared.refusals.Refusal.TheVariants as reason;
 ghost use Rattle.shared_house.specs.Desks.{DeskCall, Enters, Lacks, Takes};
+ghost use Rattle.byte_view.specs.Contents.{AreDigested};
+ghost use Rattle.site_change.specs.Changes.{IsWithin};
 ghost use Rattle.shared_house.specs.Entering.{IsEntryAnswer, IsLackAnswer, IsUploadAnswer, reason_of_command, reason_of_undo};
 
-use crate::guests::Note;
+use crate::notes::LogFront;
+use byte_view::BlobInfo;
 use host_api::{Ask, Items, Refusal};
 use host_names::{Digest, FilePath, SiteName};
 use http_wire::Head;
+use seen_lists::ListName;
 use site_change::Command;
-use site_desk::{DeskError, DeskName, Notice, UploadError};
+use site_desk::{DeskError, DeskName, Notice, SeenFiles, UploadError};
 use site_state::Listing;
 use std::alloc::{AllocError, Global};
 
@@ -23,9 +27,10 @@ pub struct Taken<R> {
     pub published: Option<R>,
 }
 
-/// Where entries are made and files are kept. Others make entries there meanwhile. Whoever asks says what was seen of the desk's log, and is told the log at
-/// which the desk answers: it begins with that.
-pub trait DeskAccess<J: DeskName> {
+/// Where entries are made and files are kept. Others make entries and upload files there meanwhile. Whoever asks says what was seen of the desk's log, and is
+/// told the log at which the desk answers: it begins with that. Whoever asks about files says which were seen, and is told those by which the desk answers: all
+/// that were seen are among them.
+pub trait DeskAccess<J: DeskName, K: ListName<BlobInfo>> {
     /// What a call, with its answer, shows. Each desk chooses it. A house is proved over any such desk, so it can show a call only by making it.
     ghost did: { DeskCall → Type 0 };
 
@@ -39,7 +44,7 @@ pub trait DeskAccess<J: DeskName> {
     /// Makes a command the next entry of whatever the log is by then, and gives the receipt of it.
     fn commit(
         &self,
-        seen: &mut Note<J>,
+        seen: &mut LogFront<J>,
         command: Command,
     ) -> Result<Notice<J>, DeskError<Notice<J>>>
         ensures later { BeginsWith seen.new seen.old }
@@ -49,7 +54,7 @@ pub trait DeskAccess<J: DeskName> {
     /// Makes the undo of a change of a site the next entry of whatever the log is by then, and gives the receipt of it.
     fn undo(
         &self,
-        seen: &mut Note<J>,
+        seen: &mut LogFront<J>,
         site: &SiteName,
         change: u64,
     ) -> Result<Notice<J>, DeskError<Notice<J>>>
@@ -60,24 +65,33 @@ pub trait DeskAccess<J: DeskName> {
     /// Takes bytes as the file that a deploy lists at a path, and publishes the deploy if it is ready then.
     fn upload(
         &self,
-        seen: &mut Note<J>,
+        seen: &mut LogFront<J>,
+        known: &mut SeenFiles<K>,
         site: &SiteName,
         deploy: u64,
         path: &FilePath,
         bytes: &[u8],
     ) -> Result<Taken<Notice<J>>, UploadError<Notice<J>>>
-        ensures asked { did (Takes site.now deploy path.now bytes.now seen.new result) }
+        ensures files { IsWithin known.old known.new }
+        ensures asked { did (Takes site.now deploy path.now bytes.now seen.new known.new result) }
         ensures answer { (first : Log) × BeginsWith first seen.old × BeginsWith seen.new first
-            × IsUploadAnswer site.now deploy path.now bytes.now first seen.new result };
+            × IsUploadAnswer site.now deploy path.now bytes.now first seen.new known.new result };
 
     /// The listed digests whose files aren't uploaded by now.
-    fn missing(&self, alloc: Global, files: &Listing) -> Result<Items<Digest>, AllocError>
-        ensures asked { did (Lacks files.now.1 result) }
-        ensures answer { IsLackAnswer files.now.1 result };
+    fn missing(
+        &self,
+        alloc: Global,
+        known: &mut SeenFiles<K>,
+        files: &Listing,
+    ) -> Result<Items<Digest>, AllocError>
+        ensures files { IsWithin known.old known.new }
+        ensures digested { AreDigested known.new }
+        ensures asked { did (Lacks files.now.1 known.new result) }
+        ensures answer { IsLackAnswer known.new files.now.1 result };
 
     /// The receipt of all entries. It may wait for a change that is being made. A house asks for it only if it has learnt of entries that aren't shown, which
     /// no desk lets anybody learn of.
-    fn shown(&self, seen: &mut Note<J>) -> Result<Notice<J>, AllocError>
+    fn shown(&self, seen: &mut LogFront<J>) -> Result<Notice<J>, AllocError>
         ensures later { BeginsWith seen.new seen.old }
         ensures receipt { IfOk result (λ receipt. receipt ≡ seen.new) };
 }

@@ -1,40 +1,39 @@
 //! Connections that go from one worker to another, each with a note of what it saw.
 ghost use Rattle.std.specs.Prelude.{◌≡◌};
-ghost use Rattle.change_log.specs.Logs.{BeginsWith, Log};
 ghost use Rattle.host_connection.specs.Advancing.{Goes, RemembersMemory, TellsBody, phases_left};
 ghost use Rattle.host_connection.specs.Carrying.{AnswersOnce, Carries, Leads};
 ghost use Rattle.host_replies.specs.Bodies.{answer_of};
 ghost use Rattle.shared_house.specs.GuestLaws as laws;
 ghost use Rattle.shared_house.specs.Guests.{IsGuestAnswer};
+ghost use Rattle.shared_house.specs.Desks.{shows};
 ghost use Rattle.shared_house.specs.HouseLaws as houses;
+ghost use Rattle.shared_house.specs.Seeing.{HasAll, Known};
 
 use crate::answered::Answered;
 use crate::desk_access::DeskAccess;
 use crate::file_access::FileAccess;
 use crate::haste::Haste;
 use crate::houses::{DeskVisitor, SharedHouse};
+use crate::notes::Note;
+use byte_view::BlobInfo;
 use host_answers::answer;
 use host_connection::{Connection, Metered, Progress, Request, Service};
 use host_replies::Reply;
 use http_wire::{Duplex, Head};
-use seen_lists::Front;
-use site_change::Entry;
+use seen_lists::ListName;
 use site_desk::DeskName;
 use std::alloc::Global;
 use std::marker::Model;
 use std::mem;
 
-/// What a connection saw last: the front of a desk's log. A note takes no memory, and can be made again.
-pub type Note<J> = Front<Entry, J>;
-
-/// A worker's house, and the note of the connection that it answers. Contracts see the log of the note alone, so the worker is no part of what they say.
+/// A worker's house, and the note of the connection that it answers. Contracts see the note alone, so the worker is no part of what they say.
 ///
 /// A quick guest leaves a request for later whose answer may need the desk, or a piece of a file that isn't at hand. A thread that may wait answers such a
 /// request by a guest of its own, over what the other one saw.
 #[derive(Drop)]
-pub struct Guest<J: DeskName, D, G, H> {
-    house: SharedHouse<J, D, G>,
-    note: Note<J>,
+pub struct Guest<J: DeskName, K: ListName<BlobInfo>, D, G, H> {
+    house: SharedHouse<J, K, D, G>,
+    note: Note<J, K>,
     haste: H,
     // The request that the last step answered, if it answered one.
     answered: Option<Answered>,
@@ -42,10 +41,15 @@ pub struct Guest<J: DeskName, D, G, H> {
     sight: Option<DeskVisitor<J>>,
 }
 
-impl<J: DeskName, D, G, H> Model for Guest<J, D, G, H> {
-    ghost use Rattle.change_log.specs.Logs.{Log};
+impl<J: DeskName, K: ListName<BlobInfo>, D, G, H> Model for Guest<J, K, D, G, H> {
+    ghost use Rattle.std.specs.Coded.{coded_list};
+    ghost use Rattle.blob_store.specs.contracts.blob_indexes.BlobIndex as index;
+    ghost use Rattle.site_change.specs.contracts.entries.Entry as entry;
+    ghost use Rattle.shared_house.specs.Seeing.{Known, coded_known};
 
-    ghost Value = { Log };
+    ghost Value = { Known };
+
+    ghost coded = { coded_known (coded_list entry.the_row.coded) index.the_row.coded };
 
     ghost view = { λ g. g.note };
 }
@@ -65,26 +69,27 @@ fn may_need_desk(request: &Request) -> bool {
 }
 
 /// The reply to a request of a connection with this note: the house learns the note before, and the note is what the house knows then.
-fn answer_guest<J: DeskName, D: DeskAccess<J>, G: FileAccess>(
+fn answer_guest<J: DeskName, K: ListName<BlobInfo>, D: DeskAccess<J, K>, G: FileAccess>(
     alloc: Global,
-    house: &mut SharedHouse<J, D, G>,
-    note: &mut Note<J>,
+    house: &mut SharedHouse<J, K, D, G>,
+    note: &mut Note<J, K>,
     head: &Head,
     body: &[u8],
 ) -> Reply
-    ensures replied { IsGuestAnswer D.did note.old head.now body.now (answer_of result) note.new }
-    ensures grows { BeginsWith note.new note.old }
+    ensures replied { IsGuestAnswer (shows D.did G.fails) note.old head.now body.now (answer_of result) note.new }
+    ensures grows { HasAll note.old note.new }
 {
-    house.visitor.learn_front(note);
+    house.learn_note(note);
     let reply = answer(alloc, house, head, body);
-    *note = house.visitor.front();
+    *note = house.note();
     reply
 }
 
-impl<J: DeskName, D: DeskAccess<J>, G: FileAccess, H: Haste> Service for Guest<J, D, G, H> {
-    ghost answers = { IsGuestAnswer D.did };
+impl<J: DeskName, K: ListName<BlobInfo>, D: DeskAccess<J, K>, G: FileAccess, H: Haste> Service
+    for Guest<J, K, D, G, H> {
+    ghost answers = { IsGuestAnswer (shows D.did G.fails) };
 
-    ghost grows = { λ old new. BeginsWith new old };
+    ghost grows = { HasAll };
 
     ghost postpones = { H.postpones };
 
@@ -109,19 +114,25 @@ impl<J: DeskName, D: DeskAccess<J>, G: FileAccess, H: Haste> Service for Guest<J
         Some(reply)
     }
 
-    ghost withheld = { laws.withheld D.did };
+    ghost withheld = { laws.withheld (shows D.did G.fails) };
 
-    ghost stays = { houses.stays };
+    ghost stays = { houses.has_itself };
 
-    ghost goes_on = { houses.goes_on };
+    ghost goes_on = { houses.has_all };
 }
 
-impl<J: DeskName, D: DeskAccess<J>, G: FileAccess, H: Haste> Guest<J, D, G, H> {
+impl<J: DeskName, K: ListName<BlobInfo>, D: DeskAccess<J, K>, G: FileAccess, H: Haste> Guest<
+    J,
+    K,
+    D,
+    G,
+    H,
+> {
     /// A worker at no connection.
-    pub fn new(house: SharedHouse<J, D, G>, haste: H) -> Guest<J, D, G, H>
+    pub fn new(house: SharedHouse<J, K, D, G>, haste: H) -> Guest<J, K, D, G, H>
         ensures { result ≡ house.known }
     {
-        let note = house.visitor.front();
+        let note = house.note();
         Guest {
             house,
             note,
@@ -150,7 +161,7 @@ impl<J: DeskName, D: DeskAccess<J>, G: FileAccess, H: Haste> Guest<J, D, G, H> {
     fn look_for(&mut self) -> Option<DeskVisitor<J>>
         ensures { self.new ≡ self.old }
     {
-        self.house.visitor.learn_front(&self.note);
+        self.house.visitor.learn_front(&self.note.log);
         let Ok(_) = self.house.visitor.look() else {
             return None;
         };
@@ -158,8 +169,8 @@ impl<J: DeskName, D: DeskAccess<J>, G: FileAccess, H: Haste> Guest<J, D, G, H> {
     }
 
     /// A note for a new connection: what the worker knows.
-    pub fn note(&self) -> Note<J> {
-        self.house.visitor.front()
+    pub fn note(&self) -> Note<J, K> {
+        self.house.note()
     }
 
     /// The request that the last step answered. A step answers one at most.
@@ -168,14 +179,14 @@ impl<J: DeskName, D: DeskAccess<J>, G: FileAccess, H: Haste> Guest<J, D, G, H> {
     }
 
     /// Takes the note of the connection that it goes to.
-    fn take_note(&mut self, note: &mut Note<J>)
+    fn take_note(&mut self, note: &mut Note<J, K>)
         ensures { self.new ≡ note.old }
     {
         mem::swap(&mut self.note, note);
     }
 
     /// Gives the connection its note back.
-    fn give_note(&mut self, note: &mut Note<J>)
+    fn give_note(&mut self, note: &mut Note<J, K>)
         ensures { note.new ≡ self.old }
     {
         mem::swap(note, &mut self.note);
@@ -185,17 +196,16 @@ impl<J: DeskName, D: DeskAccess<J>, G: FileAccess, H: Haste> Guest<J, D, G, H> {
     pub fn go_on<X: Duplex>(
         &mut self,
         connection: &mut Connection,
-        note: &mut Note<J>,
+        note: &mut Note<J, K>,
         alloc: Global,
         duplex: &mut Metered<X>,
     ) -> Progress
-        ensures leads { (start : X) (first : Log)
-            → Carries (IsGuestAnswer D.did) X.saw (Unit {0}) start first duplex.old.stream note.old connection.old
-            → Leads (IsGuestAnswer D.did) X.saw (Unit {0}) X.waits start first duplex.new.stream note.new
-            connection.new result }
-        ensures asks { AnswersOnce (IsGuestAnswer D.did) note.old note.new }
+        ensures leads { let answers = IsGuestAnswer (shows D.did G.fails) in (start : X) (first : Known)
+            → Carries answers X.saw (Unit {0}) start first duplex.old.stream note.old connection.old
+            → Leads answers X.saw (Unit {0}) X.waits start first duplex.new.stream note.new connection.new result }
+        ensures asks { AnswersOnce (IsGuestAnswer (shows D.did G.fails)) note.old note.new }
         ensures later { result ≡ Progress.Postponed → H.postpones × (note.new ≡ note.old) }
-        ensures grows { BeginsWith note.new note.old }
+        ensures grows { HasAll note.old note.new }
         ensures goes { Goes X.saw duplex.old.stream duplex.new.stream result
             (phases_left connection.old.number connection.old.phase)
             (phases_left connection.new.number connection.new.phase) }

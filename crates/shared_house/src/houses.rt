@@ -4,16 +4,17 @@ ghost use Rattle.change_log.specs.Logs.{BeginsWith, last_number};
 ghost use Rattle.host_answers.specs.declared.stops.Stop.TheVariants.{OutOfMemory};
 ghost use Rattle.shared_house.specs.Entering as spec;
 ghost use Rattle.shared_house.specs.Entering.{published_log, refusal_of, stop_of};
-ghost use Rattle.shared_house.specs.Seeing.{by_front};
+ghost use Rattle.shared_house.specs.Seeing.{HasAll, Known, by_front};
 
 use crate::desk_access::DeskAccess;
-use crate::guests::Note;
+use crate::notes::{LogFront, Note};
 use blob_store::UploadFault;
+use byte_view::BlobInfo;
 use host_answers::Stop;
 use host_api::Refusal;
-use seen_lists::{LookFault, Visitor};
+use seen_lists::{ListName, LookFault, Visitor};
 use site_change::{ChangeRefusal, Entry};
-use site_desk::{DeskError, DeskName, HostSnap, Notice, UploadError};
+use site_desk::{DeskError, DeskName, HostSnap, Notice, SeenFiles, UploadError};
 use std::alloc::AllocError;
 use std::marker::Model;
 use std::sync::Arc;
@@ -22,41 +23,49 @@ use std::sync::Arc;
 pub type DeskVisitor<J> = Visitor<Entry, J, HostSnap>;
 
 /// What one worker of a node answers requests over: a visitor of the desk, which is the worker's own, the desk, and the node's files. It shows the
-/// snapshot of its last look or receipt. Contracts see the longest log that it saw or learnt of, and what it shows.
+/// snapshot of its last look or receipt. Contracts see the longest log that it saw or learnt of, the files that it has seen, and what it shows.
 #[derive(Drop)]
-pub struct SharedHouse<J: DeskName, D, G> {
+pub struct SharedHouse<J: DeskName, K: ListName<BlobInfo>, D, G> {
     pub(crate) visitor: DeskVisitor<J>,
+    pub(crate) seen_files: SeenFiles<K>,
     pub(crate) desk: D,
     pub(crate) files: G,
     pub(crate) snap: Arc<HostSnap>,
 }
 
-impl<J: DeskName, D, G> Model for SharedHouse<J, D, G> {
+impl<J: DeskName, K: ListName<BlobInfo>, D, G> Model for SharedHouse<J, K, D, G> {
     ghost use Rattle.std.specs.Coded.{coded_list};
+    ghost use Rattle.blob_store.specs.contracts.blob_indexes.BlobIndex as index;
     ghost use Rattle.site_change.specs.contracts.entries.Entry as entry;
     ghost use Rattle.change_undo.specs.contracts.histories.History as histories;
+    ghost use Rattle.shared_house.specs.Seeing.{coded_known};
     ghost use Rattle.shared_house.specs.Sights.{Sight, coded_sight};
 
     ghost Value = { Sight };
 
-    ghost coded = { coded_sight (coded_list entry.the_row.coded) histories.the_row.coded };
+    ghost coded = { coded_sight (coded_known (coded_list entry.the_row.coded) index.the_row.coded)
+        histories.the_row.coded };
 
-    ghost view = { λ h. record { known = h.visitor.known; past = h.snap.value } };
+    ghost view = { λ h. record {
+      known = record { log = h.visitor.known; files = h.seen_files };
+      past = h.snap.value;
+    } };
 }
 
-impl<J: DeskName, D: Drop, G: Drop> SharedHouse<J, D, G> {
-    /// A house of what is shown now.
+impl<J: DeskName, K: ListName<BlobInfo>, D: Drop, G: Drop> SharedHouse<J, K, D, G> {
+    /// A house of what is shown now. It has seen no files.
     pub fn new(
         visitor: DeskVisitor<J>,
         desk: D,
         files: G,
-    ) -> Result<SharedHouse<J, D, G>, LookFault>
-        ensures { IfOk result (λ house. BeginsWith house.known visitor.known) }
+    ) -> Result<SharedHouse<J, K, D, G>, LookFault>
+        ensures { IfOk result (λ house. BeginsWith house.known.log visitor.known) }
     {
         let mut visitor = visitor;
         let snap = visitor.look()?;
         Ok(SharedHouse {
             visitor,
+            seen_files: SeenFiles::none(),
             desk,
             files,
             snap,
@@ -64,7 +73,33 @@ impl<J: DeskName, D: Drop, G: Drop> SharedHouse<J, D, G> {
     }
 }
 
-impl<J: DeskName, D, G> SharedHouse<J, D, G> {
+impl<J: DeskName, K: ListName<BlobInfo>, D, G> SharedHouse<J, K, D, G> {
+    /// A note of what it knows.
+    pub(crate) fn note(&self) -> Note<J, K>
+        ensures { result ≡ self.now.known }
+    {
+        Note {
+            log: self.visitor.front(),
+            files: self.seen_files.again(),
+        }
+    }
+
+    /// Learns what a note has.
+    pub(crate) fn learn_note(&mut self, note: &Note<J, K>)
+        ensures kept { HasAll self.old.known self.new.known }
+        ensures learnt { HasAll note.now self.new.known }
+    {
+        self.visitor.learn_front(&note.log);
+        self.seen_files.learn(&note.files);
+    }
+
+    /// Learns of files by which the desk answered.
+    fn find(&mut self, known: &SeenFiles<K>)
+        ensures { by_front.finds self.old.known known.now self.new.known }
+    {
+        self.seen_files.learn(known);
+    }
+
     /// Learns of an entry by its receipt, and gives the entry's number.
     pub(crate) fn learn(&mut self, receipt: Notice<J>) -> u64
         ensures number { result ≡ last_number receipt }
@@ -92,14 +127,14 @@ impl<J: DeskName, D, G> SharedHouse<J, D, G> {
     }
 
     /// Learns of the log at which the desk answered.
-    fn learn_log(&mut self, seen: &Note<J>)
+    fn learn_log(&mut self, seen: &LogFront<J>)
         ensures { by_front.learns self.old.known seen.now self.new.known }
     {
         self.visitor.learn_front(seen);
     }
 
     /// What is told if the desk makes no entry. The log at which it answered is learnt.
-    pub(crate) fn stop(&mut self, seen: &Note<J>, why: DeskError<Notice<J>>) -> Stop
+    pub(crate) fn stop(&mut self, seen: &LogFront<J>, why: DeskError<Notice<J>>) -> Stop
         ensures told { result ≡ stop_of why }
         ensures learnt { by_front.learns self.old.known seen.now self.new.known }
     {
@@ -107,15 +142,19 @@ impl<J: DeskName, D, G> SharedHouse<J, D, G> {
         stop_for(why)
     }
 
-    /// Learns of the log at which the desk took an upload, and of the publishing of a deploy, if there is one. Gives the number of its entry.
+    /// Learns of the files by which the desk took an upload, of the log at which it did, and of the publishing of a deploy, if there is one. Gives the number of
+    /// its entry.
     pub(crate) fn learn_taken(
         &mut self,
-        seen: &Note<J>,
+        seen: &LogFront<J>,
+        known: &SeenFiles<K>,
         published: Option<Notice<J>>,
     ) -> Option<u64>
         ensures number { result ≡ option_map last_number published }
-        ensures learnt { by_front.learns self.old.known (published_log seen.now published) self.new.known }
+        ensures learnt { (mid : Known) × by_front.finds self.old.known known.now mid
+            × by_front.learns mid (published_log seen.now published) self.new.known }
     {
+        self.find(known);
         match published {
             Some(receipt) => Some(self.learn(receipt)),
             None => {
@@ -125,21 +164,29 @@ impl<J: DeskName, D, G> SharedHouse<J, D, G> {
         }
     }
 
-    /// What is told if an upload isn't taken, or its deploy isn't published. The log at which the desk answered is learnt.
-    pub(crate) fn not_taken(&mut self, seen: &Note<J>, why: UploadError<Notice<J>>) -> Refusal
+    /// What is told if an upload isn't taken, or its deploy isn't published. The files and the log at which the desk answered are learnt.
+    pub(crate) fn not_taken(
+        &mut self,
+        seen: &LogFront<J>,
+        known: &SeenFiles<K>,
+        why: UploadError<Notice<J>>,
+    ) -> Refusal
         ensures told { result ≡ refusal_of why }
-        ensures learnt { by_front.learns self.old.known seen.now self.new.known }
+        ensures learnt { (mid : Known) × by_front.finds self.old.known known.now mid
+            × by_front.learns mid seen.now self.new.known }
     {
+        self.find(known);
         self.learn_log(seen);
         refusal_for(why)
     }
 }
 
-impl<J: DeskName, D: DeskAccess<J>, G> SharedHouse<J, D, G> {
+impl<J: DeskName, K: ListName<BlobInfo>, D: DeskAccess<J, K>, G> SharedHouse<J, K, D, G> {
     /// The snapshot of the most that is shown, was seen or was learnt. There may be no memory for an owner of it.
     pub(crate) fn see(&mut self) -> Result<Arc<HostSnap>, AllocError>
-        ensures seen { IfOk result (λ snap. self.new.known ≡ snap.value.entries) }
-        ensures kept { BeginsWith self.new.known self.old.known }
+        ensures seen { IfOk result (λ snap. self.new.known.log ≡ snap.value.entries) }
+        ensures kept { BeginsWith self.new.known.log self.old.known.log }
+        ensures files { self.new.known.files ≡ self.old.known.files }
         ensures same { OnErr result (self.new.known ≡ self.old.known) }
     {
         match self.visitor.look() {
@@ -151,8 +198,9 @@ impl<J: DeskName, D: DeskAccess<J>, G> SharedHouse<J, D, G> {
 
     /// The same, of the desk itself: what was learnt isn't shown.
     fn catch_up(&mut self) -> Result<Arc<HostSnap>, AllocError>
-        ensures seen { IfOk result (λ snap. self.new.known ≡ snap.value.entries) }
-        ensures kept { BeginsWith self.new.known self.old.known }
+        ensures seen { IfOk result (λ snap. self.new.known.log ≡ snap.value.entries) }
+        ensures kept { BeginsWith self.new.known.log self.old.known.log }
+        ensures files { self.new.known.files ≡ self.old.known.files }
         ensures same { OnErr result (self.new.known ≡ self.old.known) }
     {
         let mut seen = self.visitor.front();

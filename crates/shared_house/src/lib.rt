@@ -9,10 +9,12 @@ mod guests;
 mod haste;
 mod houses;
 pub mod laws;
+mod notes;
 
 pub use answered::Answered;
 pub use desk_access::{DeskAccess, Taken};
 pub use file_access::{CachedFiles, FileAccess, GroupFiles};
-pub use guests::{Guest, Note};
+pub use guests::Guest;
 pub use haste::{Haste, Patient, Quick};
 pub use houses::{DeskVisitor, SharedHouse};
+pub use notes::{LogFront, Note};

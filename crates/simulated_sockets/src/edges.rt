@@ -1,7 +1,9 @@
 //! The listener and the sockets of a simulated node.
+ghost use Rattle.std.specs.Bool.{⊤};
+
 use crate::worlds::World;
 use simulated_clients::Moved;
-use socket_sets::{ClientSocket, Listener, NotAccepted};
+use socket_sets::{AcceptFault, ClientSocket, Listener};
 use std::io;
 use std::io::ErrorKind;
 use std::sync::Mutex;
@@ -36,7 +38,8 @@ impl ClientSocket for DrawnSocket<'_> {
         };
         match world.drop_input(self.caller, most as u64) {
             Moved::Bytes(count) => Ok((count as usize).min(most)),
-            Moved::WouldWait if world.is_interrupted() => {
+            // A call that would wait may say that it was interrupted.
+            Moved::WouldWait if world.draws.below(8) == 0 => {
                 Err(io::Error::from(ErrorKind::Interrupted))
             }
             Moved::WouldWait => Err(io::Error::from(ErrorKind::WouldBlock)),
@@ -59,9 +62,13 @@ pub struct DrawnListener<'a> {
 }
 
 impl<'a> Listener<DrawnSocket<'a>> for DrawnListener<'a> {
-    fn accept_one(&self) -> Result<DrawnSocket<'a>, NotAccepted> {
+    ghost failed = { λ _. ⊤ };
+
+    ghost looked = { λ _. ⊤ };
+
+    fn accept_client(&self) -> Result<DrawnSocket<'a>, AcceptFault> {
         let Some(mut world) = self.world.try_lock() else {
-            return Err(NotAccepted::Gone);
+            return Err(AcceptFault::Other);
         };
         let caller = world.accept()?;
         drop(world);
@@ -69,5 +76,12 @@ impl<'a> Listener<DrawnSocket<'a>> for DrawnListener<'a> {
             world: self.world,
             caller,
         })
+    }
+
+    fn has_client(&self) -> bool {
+        match self.world.try_lock() {
+            Some(mut world) => world.lacks_for_client(),
+            None => false,
+        }
     }
 }

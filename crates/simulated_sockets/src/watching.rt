@@ -57,15 +57,12 @@ impl World {
             caller.watch = Some(watch);
         }
         self.release_first();
-        if self.open() > self.most_open() {
+        // One a place, and one newcomer a worker.
+        let most = self.plan.places.saturating_add(self.plan.workers as u64);
+        if self.open() > most {
             self.blame(Fault::TooManyPlaces);
         }
         true
-    }
-
-    /// How many sockets the node has at most: one a place, and one newcomer a worker.
-    fn most_open(&self) -> u64 {
-        self.plan.places.saturating_add(self.plan.workers as u64)
     }
 
     /// It waits for something else of a socket. Answers whether it does.

@@ -3,7 +3,7 @@ use crate::rooms::First;
 use connection_rules::Limits;
 use event_loop::NotBegun;
 use simulated_clients::{Caller, Doing, Draws, Fault, Plan, Seen, Whereabouts};
-use socket_sets::NotAccepted;
+use socket_sets::AcceptFault;
 use std::alloc::{AllocError, Global};
 use worker_connections::Step;
 
@@ -125,11 +125,6 @@ impl World {
         fails
     }
 
-    /// Whether a call that would wait says that it was interrupted.
-    pub(crate) fn is_interrupted(&mut self) -> bool {
-        self.draws.below(8) == 0
-    }
-
     /// A client, if it is there.
     pub(crate) fn caller(&self, at: usize) -> Option<Caller> {
         self.callers.get(at).copied()
@@ -162,20 +157,18 @@ impl World {
         self.order
     }
 
-    /// Accepts a client.
-    pub(crate) fn accept(&mut self) -> Result<usize, NotAccepted> {
+    /// Accepts a client. As the system does, it takes a descriptor before it looks whether one waits.
+    pub(crate) fn accept(&mut self) -> Result<usize, AcceptFault> {
         self.stir();
         let open = self.open();
-        if open >= self.descriptors && self.first_to_come().is_some() {
-            self.wanted = self.wanted.saturating_add(1);
-            self.seen.lacks = self.seen.lacks.saturating_add(1);
-            return Err(NotAccepted::Lacks);
+        if open >= self.descriptors {
+            return Err(AcceptFault::Lacks);
         }
         let Some(at) = self.first_to_come() else {
-            return Err(NotAccepted::Gone);
+            return Err(AcceptFault::Other);
         };
         if self.fails() {
-            return Err(NotAccepted::Gone);
+            return Err(AcceptFault::Other);
         }
         let order = self.next_order();
         if let Some(caller) = self.callers.get_mut(at) {
@@ -191,6 +184,17 @@ impl World {
             self.blame(Fault::TooManyClients);
         }
         Ok(at)
+    }
+
+    /// Whether a client waits for which a descriptor lacks. If so, a connection is to go for it.
+    pub(crate) fn lacks_for_client(&mut self) -> bool {
+        self.stir();
+        let waits = self.first_to_come().is_some();
+        if waits {
+            self.wanted = self.wanted.saturating_add(1);
+            self.seen.lacks = self.seen.lacks.saturating_add(1);
+        }
+        waits
     }
 
     /// The socket of a client is made ready for steps. If that fails, the client isn't served.

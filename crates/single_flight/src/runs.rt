@@ -1,5 +1,5 @@
 //! Flights that threads share.
-ghost use Rattle.std.specs.Prelude.{◌≡◌, ◌↔◌, true, IfOk, IsTrue};
+ghost use Rattle.std.specs.Prelude.{◌≡◌, ◌↔◌, IfOk, IsTrue};
 
 use crate::tables::{Begun, Flight, FlightTable, Lead};
 use host_names::Digest;
@@ -10,12 +10,11 @@ use std::sync::{Arc, Mutex, Wait};
 /// Which outcomes a load of a key may have. For clauses alone: nothing calls it. The caller implements it for a type of its own and not for
 /// the type of outcomes, so that an owner of flights can be generic over it.
 pub trait Loads<T: Clone> {
-    ghost use Rattle.std.specs.Prelude.{◌≡◌, Bool, true};
     ghost use Rattle.host_names.specs.declared.digests.Digest.{Digest};
 
-    ghost fits: { Digest → T → Bool };
+    ghost fits: { Digest → T → Type 0 };
 
-    ghost clones_fit: { (key : Digest) (outcome share : T) → T.is_clone outcome share → fits key outcome ≡ true → fits key share ≡ true };
+    ghost clones_fit: { (key : Digest) (outcome share : T) → T.is_clone outcome share → fits key outcome → fits key share };
 }
 
 /// The outcome of a flight, with its key. Another thread set it, so whoever reads it knows it by its type alone: it is an outcome that a
@@ -25,7 +24,7 @@ struct Landed<T: Clone + Drop, L: Loads<T>> {
     key: Digest,
     outcome: T,
     of: PhantomData<L>,
-    ghost fitting: { L.fits key outcome ≡ true },
+    ghost fitting: { ∥ L.fits key outcome ∥₁ },
 }
 
 impl<T: Clone + Drop, L: Loads<T>> Landed<T, L> {
@@ -38,7 +37,7 @@ impl<T: Clone + Drop, L: Loads<T>> Landed<T, L> {
 
     /// A share of the outcome.
     fn share(&self) -> Result<T, AllocError>
-        ensures { IfOk result (λ outcome. L.fits self.now.key outcome ≡ true) }
+        ensures { IfOk result (λ outcome. ∥ L.fits self.now.key outcome ∥₁) }
     {
         self.outcome.clone()
     }
@@ -58,8 +57,8 @@ fn joined<T: Clone + Drop, L: Loads<T>, R: Wait, F: FnOnce() -> T + Drop>(
     load: F,
 ) -> Result<T, AllocError>
     requires callable { F.pre load }
-    requires fits { (outcome : _) → F.post load outcome → L.fits key.now outcome ≡ true }
-    ensures { IfOk result (λ outcome. L.fits key.now outcome ≡ true) }
+    requires fits { (outcome : _) → F.post load outcome → ∥ L.fits key.now outcome ∥₁ }
+    ensures { IfOk result (λ outcome. ∥ L.fits key.now outcome ∥₁) }
 {
     let landed = flight.outcome().wait(rt);
     if landed.is_of(key) {
@@ -92,8 +91,8 @@ impl<T: Clone + Drop, L: Loads<T>> Flights<T, L> {
         load: F,
     ) -> Result<T, AllocError>
         requires callable { F.pre load }
-        requires fits { (outcome : _) → F.post load outcome → L.fits key.now outcome ≡ true }
-        ensures { IfOk result (λ outcome. L.fits key.now outcome ≡ true) }
+        requires fits { (outcome : _) → F.post load outcome → ∥ L.fits key.now outcome ∥₁ }
+        ensures { IfOk result (λ outcome. ∥ L.fits key.now outcome ∥₁) }
     {
         let landed = Landed {
             key: *key,
@@ -115,8 +114,8 @@ impl<T: Clone + Drop, L: Loads<T>> Flights<T, L> {
         load: F,
     ) -> Result<T, AllocError>
         requires callable { F.pre load }
-        requires fits { (outcome : _) → F.post load outcome → L.fits key.now outcome ≡ true }
-        ensures { IfOk result (λ outcome. L.fits key.now outcome ≡ true) }
+        requires fits { (outcome : _) → F.post load outcome → ∥ L.fits key.now outcome ∥₁ }
+        ensures { IfOk result (λ outcome. ∥ L.fits key.now outcome ∥₁) }
     {
         let begun = self.table.lock(rt).begin(key)?;
         match begun {

@@ -68,3 +68,8 @@ digested_more files (bytes ∷ more) are = digested_more (with_file files bytes)
 
 pub contents_of-digested : (files : List (List ℕ)) → AreDigested (contents_of files)
 contents_of-digested files = digested_more map.empty files (λ digest bytes is. cc (sym (get-empty {X = List ℕ} digest_cmp digest) ∙ is))
+
+-- what holds no file is within any others
+pub nothing_within : (none files : Contents) → none ≡ map.empty → IsWithin none files
+nothing_within none files is digest bytes at =
+    absurd (let no : None ≡ Some bytes = sym (get-empty {X = List ℕ} digest_cmp digest) ∙ ap (λ (m : Contents). map.get m digest) (sym is) ∙ at in cc)

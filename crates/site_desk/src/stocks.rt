@@ -67,6 +67,23 @@ impl<K: ListName<BlobInfo>> Tie<K> {
         // A proof knows what a value is made of once it is read.
         self.front.len();
     }
+
+    /// A copy.
+    pub(crate) fn again(&self) -> Tie<K>
+        ensures { result ≡ self.now }
+    {
+        Tie {
+            front: self.front.again(),
+        }
+    }
+
+    /// Learns what another one has seen.
+    pub(crate) fn learn(&mut self, other: &Tie<K>)
+        ensures kept { IsWithin self.old self.new }
+        ensures learnt { IsWithin other.now self.new }
+    {
+        self.front.learn(&other.front);
+    }
 }
 
 impl<K: ListName<BlobInfo>> Stock<K> {

@@ -6,4 +6,6 @@ mod tcp;
 mod traits;
 
 pub use ready_sets::ReadySet;
-pub use traits::{ClientSocket, Listener, NotAccepted, Ready, SocketSet, Told, Waits};
+pub use traits::{
+    AcceptFault, ClientSocket, Listener, NotAccepted, Ready, SocketSet, Told, Waits, accept_one,
+};

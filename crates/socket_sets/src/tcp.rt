@@ -1,5 +1,9 @@
 //! The listener and the sockets of TCP, as a node reaches its clients by them.
-use crate::traits::{ClientSocket, Listener, NotAccepted};
+ghost use Rattle.std.specs.Prelude.{◌≡◌, ◌↔◌, ◌++◌, IsTrue, replicate, ⊤};
+ghost use Rattle.std.specs.Int.{to_le_bytes, w32};
+ghost use Rattle.socket_sets.specs.Accepting.{LacksRoom};
+
+use crate::traits::{AcceptFault, ClientSocket, Listener};
 use libc::net as c;
 use libc::types::pollfd;
 use std::io;
@@ -7,18 +11,34 @@ use std::io::{Error, Read};
 use std::net::{Shutdown, TcpListener, TcpStream};
 use std::os::fd::AsRawFd;
 
-/// The system's numbers for want of memory, of descriptors in the system and in the process, and of room for sockets: ENOMEM, ENFILE, EMFILE and ENOBUFS.
-const WANTS: [i32; 4] = [12, 23, 24, 105];
+/// The system's numbers for want of memory, of descriptors in the system and in the process, and of room for sockets.
+const ENOMEM: i32 = 12;
 
-/// How many bytes the system is asked to hold of a reply that the client doesn't take: 131,072, as the system's number of four bytes. It holds twice as many
-/// at most. What it holds counts as moved, so without a bound a slow client is late although it takes enough.
-const SEND_ROOM: [u8; 16] = [0, 0, 2, 0, 0, 0, 0, 0, 0, 0, 0, 0, 0, 0, 0, 0];
+const ENFILE: i32 = 23;
+
+const EMFILE: i32 = 24;
+
+const ENOBUFS: i32 = 105;
+
+/// How many bytes the system is asked to hold of a reply that the client doesn't take. It holds twice as many at most. What it holds counts as moved, so
+/// without a bound a slow client is late although it takes enough.
+const SEND_ROOM: u32 = 131_072;
+
+/// A number as the value of an option of a socket: its four bytes, and what the call doesn't read.
+fn option_of(number: u32) -> [u8; 16]
+    ensures { result ≡ to_le_bytes w32 number ++ replicate 12 0 }
+{
+    let bytes = number.to_ne_bytes();
+    [
+        bytes[0], bytes[1], bytes[2], bytes[3], 0, 0, 0, 0, 0, 0, 0, 0, 0, 0, 0, 0,
+    ]
+}
 
 /// Asks the system to hold no more of a reply than so much. Where it doesn't, only slow clients are worse off.
 fn bound_send_room(stream: &TcpStream) {
     let descriptor = stream.as_raw_fd();
-    // The call reads four bytes of the array, which has more.
-    let _ = unsafe { c::setsockopt(descriptor, c::SOL_SOCKET, c::SO_SNDBUF, &SEND_ROOM, 4) };
+    let room = option_of(SEND_ROOM);
+    let _ = unsafe { c::setsockopt(descriptor, c::SOL_SOCKET, c::SO_SNDBUF, &room, 4) };
 }
 
 impl ClientSocket for TcpStream {
@@ -40,29 +60,35 @@ impl ClientSocket for TcpStream {
 }
 
 /// Whether a client couldn't be accepted for want of a descriptor or of memory. Other failures are the client's own.
-fn lacks_room(error: &Error) -> bool {
-    match error.raw_os_error() {
-        Some(number) => WANTS.contains(&number),
-        None => false,
-    }
-}
-
-/// Whether a client waits to be accepted. Where the system lacks a descriptor, it says so before it looks for one.
-fn has_client(listener: &TcpListener) -> bool {
-    let mut waits = [pollfd {
-        fd: listener.as_raw_fd(),
-        events: c::POLLIN,
-        revents: 0,
-    }];
-    c::poll(&mut waits, 0) > 0
+fn lacks_room(error: &Error) -> bool
+    ensures { IsTrue result ↔ LacksRoom error.now }
+{
+    matches!(
+        error.raw_os_error(),
+        Some(ENOMEM | ENFILE | EMFILE | ENOBUFS)
+    )
 }
 
 impl Listener<TcpStream> for TcpListener {
-    fn accept_one(&self) -> Result<TcpStream, NotAccepted> {
+    // Nothing is said of what the system answers.
+    ghost failed = { λ _. ⊤ };
+
+    ghost looked = { λ _. ⊤ };
+
+    fn accept_client(&self) -> Result<TcpStream, AcceptFault> {
         match self.accept() {
             Ok((stream, _)) => Ok(stream),
-            Err(error) if lacks_room(&error) && has_client(self) => Err(NotAccepted::Lacks),
-            Err(_) => Err(NotAccepted::Gone),
+            Err(error) if lacks_room(&error) => Err(AcceptFault::Lacks),
+            Err(_) => Err(AcceptFault::Other),
         }
+    }
+
+    fn has_client(&self) -> bool {
+        let mut waits = [pollfd {
+            fd: self.as_raw_fd(),
+            events: c::POLLIN,
+            revents: 0,
+        }];
+        c::poll(&mut waits, 0) > 0
     }
 }

@@ -1,5 +1,6 @@
 //! A listener, the sockets of clients, and the set that a worker waits on, by what they do.
-ghost use Rattle.std.specs.Prelude.{◌≤◌, IfOk, length};
+ghost use Rattle.std.specs.Prelude.{◌≤◌, Bool, IfErr, IfOk, length};
+ghost use Rattle.socket_sets.specs.Accepting.{IsReason};
 
 use std::io;
 use worker_connections::Interest;
@@ -20,19 +21,52 @@ pub trait ClientSocket {
     fn shut_down(&self) -> bool;
 }
 
+/// Why the system accepted no client.
+#[derive(Clone, Copy, Debug, PartialEq, Eq)]
+pub enum AcceptFault {
+    /// A descriptor or memory is lacking. The system may say so whether a client waits or not.
+    Lacks,
+    /// None waits, or the one that did has failed.
+    Other,
+}
+
+/// What clients connect to.
+pub trait Listener<K> {
+    ghost use Rattle.socket_sets.specs.declared.traits.AcceptFault.{AcceptFault};
+
+    /// What a call of the system that failed shows, and what a look for a client shows. Each listener chooses them. Whoever has any listener can show them only
+    /// by making the call.
+    ghost failed: { AcceptFault → Type 0 };
+
+    ghost looked: { Bool → Type 0 };
+
+    /// Accepts a client by one call of the system. It doesn't wait for one.
+    fn accept_client(&self) -> Result<K, AcceptFault>
+        ensures failed { IfErr result (λ why. failed why) };
+
+    /// Whether a client waits to be accepted.
+    fn has_client(&self) -> bool
+        ensures looked { looked result };
+}
+
 /// Why no client was accepted.
 #[derive(Clone, Copy, Debug, PartialEq, Eq)]
 pub enum NotAccepted {
-    /// A descriptor or memory is lacking, which another connection can give.
+    /// A descriptor or memory is lacking, which another connection can give, and a client waits.
     Lacks,
     /// None is there any more, or it has gone.
     Gone,
 }
 
-/// What clients connect to.
-pub trait Listener<K> {
-    /// Accepts a client that has come. It doesn't wait for one.
-    fn accept_one(&self) -> Result<K, NotAccepted>;
+/// Accepts a client that has come. It doesn't wait for one. Where a descriptor lacks, the system says so before it looks for a client; so this looks.
+pub fn accept_one<K, L: Listener<K>>(listener: &L) -> Result<K, NotAccepted>
+    ensures reason { IfErr result (λ why. IsReason L.failed L.looked why) }
+{
+    match listener.accept_client() {
+        Ok(socket) => Ok(socket),
+        Err(AcceptFault::Lacks) if listener.has_client() => Err(NotAccepted::Lacks),
+        Err(_) => Err(NotAccepted::Gone),
+    }
 }
 
 /// What a wait tells of.

@@ -1,1 +1,2 @@
--- no definitions: what a socket carries is not known
+-- what public clauses say
+pub mod Trails

@@ -2,5 +2,7 @@
 #![tactic(auto)]
 
 mod sockets;
+mod trails;
 
 pub use sockets::{Socket, write_to};
+pub use trails::Trail;

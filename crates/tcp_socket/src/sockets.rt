@@ -1,9 +1,12 @@
 //! A socket that doesn't block, as a stream in both directions.
-ghost use Rattle.std.specs.Prelude.{◌≡◌, ◌<◌, IfOk, None, Ok, false, ⊤};
+ghost use Rattle.std.specs.Prelude.{◌≡◌, ◌<◌, IfOk, MatchResult, None, Ok, false, ⊤};
 ghost use Rattle.std.specs.Io.{WritesAtMost};
 ghost use Rattle.byte_slices.specs.Slices.{joined};
-ghost use Rattle.http_wire.specs.Timing.{Moves};
+ghost use Rattle.http_wire.specs.Halting.{Halts};
+ghost use Rattle.http_wire.specs.Timing.{ReadFails, WriteFails};
+ghost use Rattle.tcp_socket.specs.Trails.{moves, notes};
 
+use crate::trails::Trail;
 use byte_slices::Slices;
 use http_wire::{Duplex, Halt, ReadFailed, WriteFailed};
 use std::io;
@@ -11,8 +14,8 @@ use std::io::{ErrorKind, IoSlice, Read, Write};
 use std::marker::Model;
 use std::net::TcpStream;
 
-/// A socket that doesn't block, lent for a step. It counts the bytes of the step. What the client sends and gets is not known here, so contracts see
-/// nothing of it.
+/// A socket that doesn't block, lent for a step. It counts the bytes of the step. Contracts see what went over it so far: each read and each write, with its
+/// bytes, as the system's call told. What its client will send and has got isn't known here.
 #[derive(Drop)]
 pub struct Socket<'a> {
     // None where the socket is elsewhere, so that each call would have to wait.
@@ -23,33 +26,51 @@ pub struct Socket<'a> {
     is_drained: bool,
     // Whether a read gave nothing, so that nothing more will come.
     is_at_end: bool,
+    trail: Trail,
 }
 
 impl<'a> Model for Socket<'a> {
-    ghost Value = { Unit {0} };
+    ghost use Rattle.std.specs.Prelude.{List};
+    ghost use Rattle.http_wire.specs.Timing.{Event};
 
-    ghost view = { λ _. tt };
+    ghost Value = { List Event };
+
+    ghost view = { λ socket. socket.trail };
 }
 
 impl<'a> Socket<'a> {
-    /// A socket of which nothing was read and to which nothing was written.
-    pub fn new(stream: &'a TcpStream) -> Socket<'a> {
-        Socket::of(Some(stream))
+    /// A socket over which this went before: in this step nothing was read from it or written to it.
+    pub fn new(stream: &'a TcpStream, before: &Trail) -> Socket<'a>
+        ensures { result ≡ before.now }
+    {
+        Socket::of(Some(stream), before)
     }
 
     /// A socket that is elsewhere, for a step that needs none: each call of it would have to wait.
-    pub fn away() -> Socket<'a> {
-        Socket::of(None)
+    pub fn away(before: &Trail) -> Socket<'a>
+        ensures { result ≡ before.now }
+    {
+        Socket::of(None, before)
     }
 
-    fn of(stream: Option<&'a TcpStream>) -> Socket<'a> {
+    fn of(stream: Option<&'a TcpStream>, before: &Trail) -> Socket<'a>
+        ensures { result ≡ before.now }
+    {
         Socket {
             stream,
             read: 0,
             written: 0,
             is_drained: false,
             is_at_end: false,
+            trail: before.again(),
         }
+    }
+
+    /// What went over it so far.
+    pub fn trail(&self) -> Trail
+        ensures { result ≡ self.now }
+    {
+        self.trail.again()
     }
 
     /// How many bytes were read.
@@ -72,7 +93,7 @@ impl<'a> Socket<'a> {
         self.written
     }
 
-    // Counts what a write took of some bytes, or of none. One that took no byte of some has failed.
+    // Counts what a write took of some bytes, or of none. One that took no byte of some has failed, which is noted.
     fn count_written(
         &mut self,
         taken: io::Result<usize>,
@@ -80,15 +101,32 @@ impl<'a> Socket<'a> {
     ) -> Result<usize, Halt<WriteFailed>>
         ensures taken { IfOk result (λ count. taken ≡ Ok count) }
         ensures some { IfOk result (λ count. is_empty ≡ false → 0 < count) }
+        ensures noted { MatchResult result (λ _. self.new ≡ self.old)
+            (Halts notes (λ _. ⊤) WriteFails self.old self.new) }
     {
-        match taken {
-            Ok(0) if !is_empty => Err(Halt::Failed(WriteFailed)),
+        let failed = match taken {
+            Ok(0) if !is_empty => Halt::Failed(WriteFailed),
             Ok(count) => {
                 self.written = self.written.saturating_add(count as u64);
-                Ok(count)
+                return Ok(count);
             }
-            Err(error) => Err(halt_of(&error, WriteFailed)),
+            Err(error) => halt_of(&error, WriteFailed),
+        };
+        if let Halt::Failed(_) = &failed {
+            self.trail.note_write_failed();
         }
+        Err(failed)
+    }
+
+    // Why a read gave nothing. If it failed, that is noted.
+    fn not_read(&mut self, error: &io::Error) -> Halt<ReadFailed>
+        ensures { Halts notes (λ _. ⊤) ReadFails self.old self.new result }
+    {
+        let failed = halt_of(error, ReadFailed);
+        if let Halt::Failed(_) = &failed {
+            self.trail.note_read_failed();
+        }
+        failed
     }
 }
 
@@ -128,7 +166,7 @@ impl Duplex for Socket<'_> {
 
     ghost waits = { λ _. ⊤ };
 
-    ghost saw = { λ _ event _. Moves ⊤ ⊤ event None None None None };
+    ghost saw = { notes };
 
     fn read_some(&mut self, buf: &mut [u8]) -> Result<usize, Halt<ReadFailed>> {
         if self.is_drained {
@@ -142,9 +180,10 @@ impl Duplex for Socket<'_> {
                 self.is_drained = count > 0 && count < buf.len();
                 self.is_at_end = count == 0 && !buf.is_empty();
                 self.read = self.read.saturating_add(count as u64);
+                self.trail.note_read(&buf[..count]);
                 Ok(count)
             }
-            Err(error) => Err(halt_of(&error, ReadFailed)),
+            Err(error) => Err(self.not_read(&error)),
         }
     }
 
@@ -153,7 +192,9 @@ impl Duplex for Socket<'_> {
             return Err(Halt::WouldWait);
         };
         let taken = stream.write(bytes);
-        self.count_written(taken, bytes.is_empty())
+        let count = self.count_written(taken, bytes.is_empty())?;
+        self.trail.note_written(&bytes[..count]);
+        Ok(count)
     }
 
     fn write_slices(&mut self, slices: &Slices<'_>) -> Result<usize, Halt<WriteFailed>> {
@@ -161,8 +202,10 @@ impl Duplex for Socket<'_> {
             return Err(Halt::WouldWait);
         };
         let taken = write_to(stream, slices);
-        self.count_written(taken, slices.is_empty())
+        let count = self.count_written(taken, slices.is_empty())?;
+        self.trail.note_slices(slices, count);
+        Ok(count)
     }
 
-    ghost told = { λ _ _ _ seen. seen };
+    ghost told = { λ _ _ event _. moves event };
 }

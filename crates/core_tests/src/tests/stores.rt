@@ -1,4 +1,9 @@
 //! Uploads to a shelf in memory, stores that are opened over one, and what is read of them.
+ghost use Rattle.std.specs.Prelude.{◌≡◌, IfOk, map};
+ghost use Rattle.std.specs.List.Sorted.{IsStrictlySortedBy};
+ghost use Rattle.std.specs.Map.{keys_of};
+ghost use Rattle.host_names.specs.Digests.{digest_cmp};
+
 use super::fixtures::{assert_text, halves};
 use blob_store::{Blobs, LentShelf, MemShelf, OpenFault, ShelfName, UploadFault, Wanted};
 use byte_view::{BlobInfo, Part};
@@ -8,6 +13,7 @@ use http_wire::FieldText;
 use range_reply::{IfRange, Parts, plan, read_body};
 use range_spec::parse;
 use std::alloc::{AllocError, Global};
+use std::collections::BTreeMap;
 use std::process::Abort;
 use std::str;
 use std::sync::Arc;
@@ -87,8 +93,37 @@ fn what_is_kept_of_a_file_is_kept_once(rt: HostRuntime) -> Result<(), Fail> {
     assert_kept_once(&rt, &mut no_uploads(rt.alloc()))
 }
 
+/// Each of these digests once, in the order of digests.
+fn listed(alloc: Global, musts: &BTreeMap<Digest, bool>) -> Result<Vec<Wanted>, AllocError>
+    ensures wanted { IfOk result (λ wanted. map (λ one. one.digest) wanted.items ≡ keys_of musts.now.entries) }
+    ensures rising { IsStrictlySortedBy digest_cmp (keys_of musts.now.entries) }
+{
+    let mut wanted = Vec::new(alloc);
+    for (digest, must) in musts {
+        wanted.push(Wanted {
+            digest: *digest,
+            must: *must,
+        })?;
+    }
+    Ok(wanted)
+}
+
+/// Each wanted digest once, in the order of digests. Its file must be there if one of those that want it says so.
+fn in_order(alloc: Global, wanted: &[Wanted]) -> Result<Vec<Wanted>, AllocError>
+    ensures { IfOk result (λ order. IsStrictlySortedBy digest_cmp (map (λ one. one.digest) order.items)) }
+{
+    let mut musts = BTreeMap::new(alloc);
+    for one in wanted {
+        let before = musts.get(&one.digest).copied().unwrap_or(false);
+        musts.insert(one.digest, one.must || before)?;
+    }
+    listed(alloc, &musts)
+}
+
 /// What is told of a store that is opened: how many of the wanted files it knows, or why it isn't opened.
-fn opened(alloc: Global, shelf: MemShelf, wanted: &[Wanted]) -> Result<String, AllocError> {
+fn opened(alloc: Global, shelf: MemShelf, wanted: &[Wanted]) -> Result<String, AllocError>
+    requires { IsStrictlySortedBy digest_cmp (map (λ one. one.digest) wanted.now) }
+{
     let fault = match Blobs::open(alloc, shelf, wanted) {
         Ok(blobs) => {
             let known = wanted
@@ -138,7 +173,8 @@ fn a_store_that_is_opened_again_knows_what_was_uploaded(rt: HostRuntime) -> Resu
     let mut blobs = no_uploads(rt.alloc());
     assert_chunks(&rt, rt.alloc(), &mut blobs, file.as_slice())?;
     let wanted = upload_all(&mut blobs, file.as_slice())?;
-    let known = opened(rt.alloc(), blobs.into_shelf(), &wanted)?;
+    let order = in_order(rt.alloc(), &wanted)?;
+    let known = opened(rt.alloc(), blobs.into_shelf(), order.as_slice())?;
     assert_text(&rt, "all", known.as_str(), "knows 3");
     Ok(())
 }
@@ -174,13 +210,15 @@ fn wanted(alloc: Global, row: &str) -> Result<Vec<Wanted>, Fail> {
 
 fn assert_opened(rt: &impl Abort, alloc: Global, row: &str, told: &str) -> Result<(), Fail> {
     let wanted = wanted(alloc, row)?;
-    let text = opened(alloc, shelf(alloc)?, wanted.as_slice())?;
+    let order = in_order(alloc, wanted.as_slice())?;
+    let text = opened(alloc, shelf(alloc)?, order.as_slice())?;
     assert_text(rt, row, text.as_str(), told);
     Ok(())
 }
 
 #[test]
-fn what_must_be_there_is_judged_in_turn(rt: HostRuntime) -> Result<(), Fail> {
+fn what_must_be_there_is_judged_in_the_order_of_digests(rt: HostRuntime) -> Result<(), Fail> {
+    // The SHA-1 of `world` is the least, then come those of `abc`, of `hello` and of the empty file.
     let rows = "\
 !abc !- -> knows 2
 hello !abc - -> knows 2
@@ -189,7 +227,7 @@ world -> knows 0
 hello !hello -> damaged aaf4c61ddcc5e8a2dabede0f3b482cd9aea9434d
 !hello hello -> damaged aaf4c61ddcc5e8a2dabede0f3b482cd9aea9434d
 world !hello -> damaged aaf4c61ddcc5e8a2dabede0f3b482cd9aea9434d
-!hello !world -> damaged aaf4c61ddcc5e8a2dabede0f3b482cd9aea9434d
+!hello !world -> missing 7c211433f02071597741e6ff5a8ea34789abbf43
 !world !hello -> missing 7c211433f02071597741e6ff5a8ea34789abbf43";
     for row in rows.lines() {
         let (wanted, told) = halves(row, " -> ")?;

@@ -11,7 +11,7 @@ use left_right::Absorb;
 use seen_lists::{Front, ListName};
 use shared_desk::Desk;
 use site_change::Entry;
-use site_desk::{DeskError, DeskName, Notice, Seat, UploadError};
+use site_desk::{DeskError, DeskName, Notice, Seat, SeenFiles, UploadError};
 use std::alloc::AllocError;
 use std::sync::Wait;
 
@@ -91,7 +91,8 @@ impl<
             return Err(UploadError::WrongDigest);
         }
         match self.store(rt, &LockedAccess, digest, bytes) {
-            Ok(mut known) => {
+            Ok(stored) => {
+                let mut known = SeenFiles::of(stored);
                 self.publish_if_ready(rt, seen, &mut known, seat, &upload.site, number)
             }
             Err(fault) => Err(UploadError::NotStored(fault)),

@@ -1,5 +1,5 @@
 //! Chunks by their numbers, and a source that makes them.
-ghost use Rattle.std.specs.Prelude.{true};
+ghost use Rattle.std.specs.Prelude.{⊤};
 
 use anyhow::anyhow;
 use byte_view::Chunk;
@@ -60,7 +60,7 @@ impl<'a> ChunkMaker<'a> {
 }
 
 impl Source for ChunkMaker<'_> {
-    ghost allows = { λ _ _. true };
+    ghost allows = { λ _ _. ⊤ };
 
     ghost loaded = { λ _ _ _ _. Unit {0} };
 

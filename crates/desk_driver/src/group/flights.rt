@@ -11,11 +11,11 @@ use std::time::{Clock, Instant};
 struct AnyNumber;
 
 impl Loads<u64> for AnyNumber {
-    ghost use Rattle.std.specs.Prelude.{true, refl};
+    ghost use Rattle.std.specs.Prelude.{⊤};
 
-    ghost fits = { λ _ _. true };
+    ghost fits = { λ _ _. ⊤ };
 
-    ghost clones_fit = { λ _ _ _ _ _. refl };
+    ghost clones_fit = { λ _ _ _ _ fits. fits };
 }
 
 pub(crate) fn time_runs<R: Wait + Clock>(

@@ -1,5 +1,5 @@
 //! Chunks by their numbers, who gives them, and who gives other things in their place.
-ghost use Rattle.std.specs.Prelude.{true};
+ghost use Rattle.std.specs.Prelude.{⊤};
 
 use byte_view::Chunk;
 use chunk_group::{Outcome, Source};
@@ -119,7 +119,7 @@ impl PeerLink for Giver<'_> {
 }
 
 impl Source for Giver<'_> {
-    ghost allows = { λ _ _. true };
+    ghost allows = { λ _ _. ⊤ };
 
     ghost loaded = { λ _ _ _ _. Unit {0} };
 

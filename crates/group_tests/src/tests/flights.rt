@@ -22,11 +22,11 @@ enum Answer {
 struct AnyAnswer;
 
 impl Loads<Answer> for AnyAnswer {
-    ghost use Rattle.std.specs.Prelude.{true, refl};
+    ghost use Rattle.std.specs.Prelude.{⊤};
 
-    ghost fits = { λ _ _. true };
+    ghost fits = { λ _ _. ⊤ };
 
-    ghost clones_fit = { λ _ _ _ _ _. refl };
+    ghost clones_fit = { λ _ _ _ _ fits. fits };
 }
 
 /// The key that many threads call.

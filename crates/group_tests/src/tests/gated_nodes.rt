@@ -1,5 +1,5 @@
 //! Reads through a node that threads share, whose loads are held back for each other.
-ghost use Rattle.std.specs.Prelude.{true};
+ghost use Rattle.std.specs.Prelude.{⊤};
 
 use super::fixtures::{chunk_of, is_chunk_of, name_of};
 use super::gates::{ATTEMPTS, CALLERS, Gate};
@@ -27,7 +27,7 @@ struct GatedSource<'a> {
 }
 
 impl Source for GatedSource<'_> {
-    ghost allows = { λ _ _. true };
+    ghost allows = { λ _ _. ⊤ };
 
     ghost loaded = { λ _ _ _ _. Unit {0} };
 

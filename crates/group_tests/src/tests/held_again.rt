@@ -1,5 +1,5 @@
 //! Whole pieces that a reader holds while the caches let them go.
-ghost use Rattle.std.specs.Prelude.{true};
+ghost use Rattle.std.specs.Prelude.{⊤};
 
 use super::fixtures::number_of;
 use super::node_fixtures::first_node;
@@ -40,7 +40,7 @@ struct PieceSource<'a> {
 }
 
 impl Source for PieceSource<'_> {
-    ghost allows = { λ _ _. true };
+    ghost allows = { λ _ _. ⊤ };
 
     ghost loaded = { λ _ _ _ _. Unit {0} };
 

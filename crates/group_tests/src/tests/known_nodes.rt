@@ -2,7 +2,7 @@
 ghost use Rattle.std.specs.Prelude.{◌≡◌, ◌≢◌, ◌∷◌, [], IfErr, IfOk};
 ghost use Rattle.host_names.specs.Digests.{digest_of};
 ghost use Rattle.chunk_reads.specs.declared.faults.ReadFault.TheVariants.{Damaged, Device};
-ghost use Rattle.group_tests.specs.Sources.{GivesAlone, may_lack};
+ghost use Rattle.group_tests.specs.Sources.{GivesAlone, MayLack};
 
 use super::node_fixtures::first_node;
 use byte_view::Chunk;
@@ -24,7 +24,7 @@ struct OneByte {
 }
 
 impl Source for OneByte {
-    ghost allows = { may_lack };
+    ghost allows = { MayLack };
 
     ghost loaded = { λ old key answer new. GivesAlone (old.byte ∷ []) key answer × (new ≡ old) };
 

@@ -1,5 +1,5 @@
 //! Many reads of many chunks through a node that threads share.
-ghost use Rattle.std.specs.Prelude.{true};
+ghost use Rattle.std.specs.Prelude.{⊤};
 
 use super::fixtures::{Gift, Giver, chunk_of, is_chunk_of, names, number_of};
 use super::gates::assert_count;
@@ -135,7 +135,7 @@ struct StockSource<'a> {
 }
 
 impl Source for StockSource<'_> {
-    ghost allows = { λ _ _. true };
+    ghost allows = { λ _ _. ⊤ };
 
     ghost loaded = { λ _ _ _ _. Unit {0} };
 

@@ -1,5 +1,6 @@
 //! Commands, undos and publishes of a host, and what it then forgets of deploys.
 ghost use Rattle.std.specs.Prelude.{◌≡◌, false, IfOk, IsTrue, OnErr, OnOk};
+ghost use Rattle.site_change.specs.declared.commands.Command.TheVariants as change;
 ghost use Rattle.site_change.specs.declared.entries.Entry.TheVariants as entry;
 ghost use Rattle.host_server.specs.Entries.{IsEntered, IsRefusedAs, IsUndoRefusedAs};
 ghost use Rattle.host_server.specs.Hosts.{Grows, next_number, with_entry};
@@ -81,7 +82,8 @@ impl SoloHouse {
         requires whole { is_broken journal.old ≡ false }
         ensures done { Publishes result self.new (publishing_if_ready self.old site.now number) }
         ensures stops { IsStopped result → IsTrue (is_published self.old site.now number) }
-        ensures journal { IsJournaled D.Disk result self.old journal.old self.new journal.new }
+        ensures journal { IsJournaled D.Disk (entry.Change (change.Publish site.now number)) result self.old journal.old
+            self.new journal.new }
         ensures err { OnErr result (self.new ≡ self.old) }
         ensures grows { Grows self.old self.new }
     {

@@ -13,6 +13,7 @@ ghost use Rattle.http_wire.specs.Requests.{RequestParts};
 ghost use Rattle.http_wire.specs.Timing.{AtEnd, Event, Steps, Timely};
 ghost use Rattle.site_change.specs.declared.commands.Command.{Command};
 ghost use Rattle.site_change.specs.declared.entries.Entry.{Entry};
+ghost use Rattle.site_change.specs.declared.entries.Entry.TheVariants.{Undo};
 ghost use Rattle.change_journal.specs.Held.{Keeps};
 ghost use Rattle.change_journal.specs.Texts.{AllStored};
 ghost use Rattle.found_host.specs.Openings.{IsNoRecordFault, IsOpenFault};
@@ -97,25 +98,31 @@ pub fn wrong_changes_are_refused<D: Disk>()
     ensures grows { (entry : Entry)
         → ¬ (Grows (record { limit = 1; entries = entry ∷ []; uploads = map.empty })
         (record { limit = 1; entries = []; uploads = map.empty })) }
-    ensures journaled { (old new : Host) (journal : Keeps D)
-        → ¬ (IsJournaled {A = ℕ} D.Disk (Ok 0) old None new (Some journal)) }
-    ensures broken { (old new : Host) → ¬ (IsJournaled {A = ℕ} D.Disk (Err reason.Device) old None new None) }
+    ensures journaled { (old new : Host) (entry : Entry) (journal : Keeps D)
+        → ¬ (IsJournaled {A = ℕ} D.Disk entry (Ok 0) old None new (Some journal)) }
+    ensures broken { (old new : Host) (entry : Entry)
+        → ¬ (IsJournaled {A = ℕ} D.Disk entry (Err reason.Device) old None new None) }
     ensures put { (old new : Keeps D) (entry : Entry) → old.broken ≡ true → ¬ (IsPut D.Disk old entry new) }
     ensures put_in_vain { (old new : Keeps D) (entry : Entry) → new.broken ≡ false
         → ¬ (IsPutInVain D.Disk old entry new) }
     ensures kept { (old new : Keeps D) (entry : Entry) → IsTrue D.is_modelled
         → ¬ (AllStored (D.may_leave new.first) (D.may_leave new.second) new.entries) → ¬ (IsPut D.Disk old entry new) }
     ensures stopped { ¬ (IsStopped {A = ℕ} (Ok 0)) }
-    ensures stops { (host next : Host) (site : SiteName) → ¬ (HostStops host (Ok (ask.Changes site)) next) }
-    ensures command { (command : Command) (next : Host)
-        → ¬ (HostStops (record { limit = 0; entries = []; uploads = map.empty }) (Ok (ask.Command command)) next) }
-    ensures undo { (site : SiteName) (k : ℕ) (next : Host)
-        → ¬ (HostStops (record { limit = 0; entries = []; uploads = map.empty }) (Ok (ask.Undo site k)) next) }
+    ensures stops { (host next : Host) (site : SiteName) (missed : Entry)
+        → ¬ (HostStops host (Ok (ask.Changes site)) missed next) }
+    ensures command { (command : Command) (missed : Entry) (next : Host)
+        → ¬ (HostStops (record { limit = 0; entries = []; uploads = map.empty }) (Ok (ask.Command command)) missed
+        next) }
+    ensures undo { (site : SiteName) (k : ℕ) (missed : Entry) (next : Host)
+        → ¬ (HostStops (record { limit = 0; entries = []; uploads = map.empty }) (Ok (ask.Undo site k)) missed
+        next) }
+    ensures missed { (host next : Host) (site : SiteName) (k : ℕ) (missed : Entry)
+        → HostStops host (Ok (ask.Undo site k)) missed next → missed ≡ Undo site k }
     ensures text { ¬ (Tells (Refused reason.BadName) (refused_answer reason.OutOfMemory)) }
     ensures comes { (host : Host) (site : SiteName) (out : Outcome) → ComesOf host (Ok (ask.Changes site)) out
         → out.host ≡ host }
-    ensures deploy { (command : SiteName → Command) (next : Host)
-        → ¬ (DeployStops (record { limit = 0; entries = []; uploads = map.empty }) 1 command next) }
+    ensures deploy { (command : SiteName → Command) (missed : Entry) (next : Host)
+        → ¬ (DeployStops (record { limit = 0; entries = []; uploads = map.empty }) 1 command missed next) }
     ensures shown { (told : Told) → ShowsDeploy (record { limit = 0; entries = []; uploads = map.empty }) 1 told
         → told ≡ Refused (reason.Change NoSuchDeploy) }
     ensures shows { (uploads : Contents) (site : SiteName) (n : ℕ)

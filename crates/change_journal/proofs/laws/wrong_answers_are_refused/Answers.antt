@@ -26,3 +26,9 @@ returns-clause-bad_record g c first second bad = number_none first second bad
 
 pub returns-clause-kept : goal.returns-clause-kept
 returns-clause-kept g c entries n first second held few bad = held_no_bad entries n first second few held bad
+
+pub returns-clause-gap : goal.returns-clause-gap
+returns-clause-gap g c front file n is = let wrong = is.1 in omega (arith, wrong)
+
+pub returns-clause-over_the_front : goal.returns-clause-over_the_front
+returns-clause-over_the_front g c front file n is = let wrong = is.0 in omega (arith, wrong)

@@ -44,11 +44,11 @@ returns-in-Ok-clause-read g c =
       more_held = nothing_held gave file c.hold_for.new.holder (more_of (length file) plan boundary) (none-more (length file) plan boundary has);
       bytes = ap₂ (λ n hs. body_text (text_in boundary) content_type n plan (map shown hs)) (ap length opened) (sym (first-sent holds [] plan boundary has));
       exact = λ pure. (
-          let all = are_pure file holds held.same_file held.lawful (pure-first file holds [] pure) in
+          let all = are_pure file holds held.same_file (pure-first file holds [] pure) in
           record {
             sent = sent_of file (length file) holds c.as_slice.result.now c.digest.result plan boundary plan seen digest held.same_file held.in_order c.in-Ok.ensures.pure all;
             bytes = ap (λ n. body_text (text_in boundary) content_type n plan (map shown holds)) (ap length opened)
-                ∙ sent-pure (text_in boundary) content_type file holds plan are all;
+                ∙ sent-pure (text_in boundary) content_type file holds plan are held.lawful all;
           });
     })) c.new.ensures.made
 
@@ -96,7 +96,7 @@ returns-in_ok-whole-in-Err-clause-read g c =
       bytes = subst B (sym parts.1) refl;
       exact = λ pure. record {
         sent = sent_of file (length file) xs c.as_slice.result.now c.digest.result plan None Whole seen digest held.same_file held.in_order c.in-Err.ensures.pure
-            (are_pure file xs held.same_file held.lawful (pure-first file xs ys pure));
-        bytes = sent-pure (text_in None) content_type file ys Whole are (are_pure file ys rest.same_file rest.lawful (pure-rest file xs ys pure));
+            (are_pure file xs held.same_file (pure-first file xs ys pure));
+        bytes = sent-pure (text_in None) content_type file ys Whole are rest.lawful (are_pure file ys rest.same_file (pure-rest file xs ys pure));
       };
     })) c.new-in-Err.ensures.made

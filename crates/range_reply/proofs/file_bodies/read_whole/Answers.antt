@@ -27,6 +27,6 @@ returns-clause-read g c =
       bytes = refl;
       exact = λ pure. record {
         sent = (refl, refl);
-        bytes = sent-pure [] content_type file holds Whole are (are_pure file holds held.same_file held.lawful (pure-first file holds [] pure));
+        bytes = sent-pure [] content_type file holds Whole are held.lawful (are_pure file holds held.same_file (pure-first file holds [] pure));
       };
     })

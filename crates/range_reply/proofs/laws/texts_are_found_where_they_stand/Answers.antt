@@ -1,5 +1,5 @@
 use Rattle.std.proofs.Common.{◌≡◌, ◌+◌, ◌-◌, ◌∙◌, ap, arith, drop, length, sym, take}
-use Rattle.range_reply.proofs.Occurrences.{from_place, place_of}
+use Rattle.byte_view.proofs.Occurrences.{from_place, place_of}
 use Rattle.range_reply.proofs.laws.texts_are_found_where_they_stand.Goals as goal
 
 pub returns : goal.returns

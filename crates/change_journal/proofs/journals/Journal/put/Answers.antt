@@ -1,11 +1,12 @@
-use Rattle.std.proofs.Common.{[], ◌∷◌, ◌++◌, ap, sym, ◌∙◌}
+use Rattle.std.proofs.Common.{[], ◌∷◌, ◌++◌, ap, sym, ◌∙◌, Err}
 use Rattle.std.proofs.lemmas.Bool.{false≢true}
 use Rattle.site_change.specs.declared.entries.Entry.{Entry}
 use Rattle.change_journal.specs.Held.{entries_of}
 use Rattle.change_journal.specs.declared.held.Held.{Held}
 use Rattle.record_file.specs.declared.positions.Position.{Position}
 use Rattle.record_file.specs.Pairs.{first_of, order_of, second_of}
-use Rattle.change_journal.proofs.JournalSteps.{all_stored, record_length, next_moments, held_moments, order_new, sound_with, torn_put}
+use Rattle.record_file.proofs.Steps.{same_error}
+use Rattle.change_journal.proofs.JournalSteps.{all_stored, record_length, next_moments, held_moments, order_new, put_fails, sound_with, torn_put, was_whole}
 use Rattle.change_journal.proofs.journals.Journal.put.Goals as goal
 
 pub put-requires-clause-long : goal.put-requires-clause-long
@@ -53,3 +54,11 @@ pub returns-clause-stored : goal.returns-clause-stored
 returns-clause-stored g c modelled =
     let sound = invariant_of-self-2 g c in
     all_stored g.D.Disk.moment g.D.Disk.left_since g.D.Disk.may_leave c.put.new.self _ sound.writable (sound.settled modelled c.in_ok-put.ensures.breaks)
+
+pub returns-in_err-put-clause-reason : goal.returns-in_err-put-clause-reason
+returns-in_err-put-clause-reason g c = rw (← c.self.view_is) (λ modelled is.
+    let fault = c.in_err-put.field-0.0 in
+    let told = same_error c.from_residual.result fault _ c.from_residual.ensures.1 is in
+    let whole = was_whole c.self.inside.slots.records.broken fault (λ failed. (c.in_err-put.ensures.refused failed).0) told in
+    put_fails g.D.Disk.seen g.D.Disk.may_fail _ c.args.prepared c.bytes.result.now c.bytes.ensures
+    (c.in_err-put.ensures.reason modelled _ _ c.bytes.ensures.is (c.self.invariant.settled modelled whole) (ap Err told)))

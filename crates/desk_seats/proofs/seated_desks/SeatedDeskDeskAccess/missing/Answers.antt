@@ -5,8 +5,4 @@ use Rattle.desk_seats.proofs.seated_desks.SeatedDeskDeskAccess.missing.Goals as 
 
 pub returns-clause-answer : goal.returns-clause-answer
 returns-clause-answer g c =
-    let known = c.in_ok-digests._known in (
-      known,
-      c.in_ok-digests.ensures.digested,
-      subst (λ (digests : List Digest). AreMissing known c.args.files.now.1 digests) (sym c.from.ensures) c.in_ok-digests.ensures.lacking,
-    )
+    subst (λ (digests : List Digest). AreMissing c.missing.new.known c.args.files.now.1 digests) (sym c.from.ensures) c.in_ok-digests.ensures.lacking

@@ -49,4 +49,4 @@ pub returns-clause-upload : goal.returns-clause-upload
 returns-clause-upload g c old new judged n bytes done long (inl (up, kept)) =
     not_uploaded g.S.Shelf.did old.house n bytes judged old.house.uploads old.files.shelf new.files.shelf done.published done.digest long up.stored up.told_is
 returns-clause-upload g c old new judged n bytes done long (inr (inl (why, refused, is, kept))) = absurd (cc is)
-returns-clause-upload g c old new judged n bytes done long (inr (inr (alone, stops))) = let short = alone.stored.0 in omega (arith, long, short)
+returns-clause-upload g c old new judged n bytes done long (inr (inr (missed, alone, stops))) = let short = alone.stored.0 in omega (arith, long, short)

@@ -16,10 +16,10 @@ none_put disk [] new put = put
 none_put disk (entry ∷ more) new put = put
 
 pub returns-clause-journaled : goal.returns-clause-journaled
-returns-clause-journaled g c old new journal is = let none = none_put g.D.Disk is.more (Some journal) is.put in absurd (cc none)
+returns-clause-journaled g c old new entry journal is = let none = none_put g.D.Disk is.more (Some journal) is.put in absurd (cc none)
 
 pub returns-clause-broken : goal.returns-clause-broken
-returns-clause-broken g c old new is = absurd (cc is.put.is)
+returns-clause-broken g c old new entry is = absurd (cc is.put.is)
 
 pub returns-clause-put : goal.returns-clause-put
 returns-clause-put g c old new entry broken is = let wrong : true ≡ false = sym broken ∙ is.was_whole in absurd (cc wrong)
@@ -32,13 +32,13 @@ returns-clause-stopped g c (inl is) = absurd (cc is)
 returns-clause-stopped g c (inr is) = absurd (cc is)
 
 pub returns-clause-command : goal.returns-clause-command
-returns-clause-command g c command next is = absurd (cc is.0)
+returns-clause-command g c command missed next is = absurd (cc is.0)
 
 pub returns-clause-deploy : goal.returns-clause-deploy
-returns-clause-deploy g c command next is = absurd (cc is.2)
+returns-clause-deploy g c command missed next is = absurd (cc is.2)
 
 pub returns-clause-undo : goal.returns-clause-undo
-returns-clause-undo g c site k next is = absurd (cc is.1)
+returns-clause-undo g c site k missed next is = absurd (cc is.1)
 
 pub returns-clause-text : goal.returns-clause-text
 returns-clause-text g c (inl is) = let wrong : 503 ≡ 400 = ap (λ (a : Answer). a.status) is in omega (arith, wrong)
@@ -55,3 +55,6 @@ returns-clause-shows g c uploads site n is = absurd (cc is)
 
 pub returns-clause-kept : goal.returns-clause-kept
 returns-clause-kept g c old new entry modelled lost is = lost (is.stored modelled)
+
+pub returns-clause-missed : goal.returns-clause-missed
+returns-clause-missed g c host next site k missed is = is.2

@@ -1,6 +1,8 @@
 use Rattle.std.proofs.Common.{rules, ◌≡◌, ℕ, Option, Result, Ok, Err, inl, inr, sym, ap, subst, ◌∙◌}
 use Rattle.host_names.specs.declared.digests.Digest.{Digest}
 use Rattle.host_names.specs.declared.names.SiteName.{SiteName}
+use Rattle.site_change.specs.declared.commands.Command.TheVariants.{Publish}
+use Rattle.site_change.specs.declared.entries.Entry.TheVariants.{Change}
 use Rattle.host_api.specs.declared.refusals.Refusal.{Refusal}
 use Rattle.host_api.specs.declared.texts.Told.TheVariants.{Uploaded}
 use Rattle.host_answers.specs.Answers.{told_upload}
@@ -15,7 +17,7 @@ pub invariant_of-self-2 : goal.invariant_of-self-2
 invariant_of-self-2 g c =
     let mid = c.keep.new.self in
     record {
-      agrees = agrees_journaled g.D.Disk c.publish_if_ready.result mid.house c.publish_if_ready.new.self mid.journal c.publish_if_ready.new.journal mid.agrees
+      agrees = agrees_journaled g.D.Disk (Change (Publish c.args.site.now c.args.number)) c.publish_if_ready.result mid.house c.publish_if_ready.new.self mid.journal c.publish_if_ready.new.journal mid.agrees
           c.publish_if_ready.ensures.journal;
     }
 
@@ -57,7 +59,7 @@ returns-in_err-published-clause-done g c =
     c.in_ok-keep.ensures.stored
     c.keep.ensures.cache
     c.in_err-published.ensures.done c.in_err-published.ensures.stops c.in_err-published.ensures.err
-    (subst (λ j. IsJournaled {A = Option ℕ} disk (Err why) c.keep.new.self.house j new_house new_journal) c.keep.ensures.journal c.in_err-published.ensures.journal)
+    (subst (λ j. IsJournaled {A = Option ℕ} disk (Change (Publish c.args.site.now c.args.number)) (Err why) c.keep.new.self.house j new_house new_journal) c.keep.ensures.journal c.in_err-published.ensures.journal)
     (ap told_upload is) (λ (other : Refusal) told. let same : why ≡ other = cc told in is ∙ ap Err same)
 
 pub returns-clause-done : goal.returns-clause-done
@@ -78,6 +80,6 @@ returns-clause-done g c =
     c.in_ok-keep.ensures.stored
     c.keep.ensures.cache
     c.publish_if_ready.ensures.done c.publish_if_ready.ensures.stops c.publish_if_ready.ensures.err
-    (subst (λ j. IsJournaled {A = Option ℕ} disk entry c.keep.new.self.house j new_house new_journal) c.keep.ensures.journal c.publish_if_ready.ensures.journal)
+    (subst (λ j. IsJournaled {A = Option ℕ} disk (Change (Publish c.args.site.now c.args.number)) entry c.keep.new.self.house j new_house new_journal) c.keep.ensures.journal c.publish_if_ready.ensures.journal)
     (ap (λ (e : Result (Option ℕ) Refusal). told_of e (λ published. Uploaded published c.in_ok-digest.digest)) (sym was))
     (λ (other : Refusal) failed. absurd (cc (sym was ∙ failed)))

@@ -12,5 +12,5 @@ returns-clause-seen g c =
 
 pub returns-clause-kept : goal.returns-clause-kept
 returns-clause-kept g c =
-    subst (λ (l : Log). BeginsWith c.learn.new.self.known l) (ap (λ (s : Sight). s.known) c.self.view_is)
+    subst (λ (l : Log). BeginsWith c.learn.new.self.known l) (ap (λ (s : Sight). s.known.log) c.self.view_is)
     (begins c.self.inside.visitor.known c.learn.new.self.known c.learn.ensures.kept)

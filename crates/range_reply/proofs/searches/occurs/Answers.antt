@@ -1,5 +1,0 @@
-use Rattle.range_reply.proofs.Occurrences.{found_exactly}
-use Rattle.range_reply.proofs.searches.occurs.Goals as goal
-
-pub returns : goal.returns
-returns c = found_exactly c.args.bytes.now c.args.text.now c.find.result c.is_some.result c.find.ensures c.is_some.ensures

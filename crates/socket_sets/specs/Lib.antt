@@ -1,0 +1,2 @@
+-- what clauses say of clients that are accepted
+pub mod Accepting
