@@ -43,6 +43,8 @@ CONTENTS, CACHED = 8, 2
 FEW, HELLO = 64, sent(b"hello")
 # How many replies hold one file, which is read from the store for each.
 HOLDERS = 8
+# What the operator is told where a reply ends since all hold too much.
+TOLD = rb"\Afilehost: \S+Z replies: they hold more than they may, so the slowest one ends( \(\d+ more\))?\n\Z"
 # How many bytes the system holds of a reply at most, and how many it holds for a client that takes none.
 SYSTEM, FAR = 262_144, 65_536
 
@@ -237,6 +239,13 @@ class Rooms(Room):
         for plug in [moving, *others]:
             self.assertEqual(len(self.received(plug, MUCH)), MUCH)
         self.assertLess(len(self.received(once, LARGEST_FILE - MUCH)), MUCH)
+
+    def test_the_operator_is_told_that_a_reply_ends_since_all_hold_too_much(self):
+        started = self.serve("--store", str(self.write_store(LEFT + 1, CACHED)[0]), "--workers", "1", second=WHOLE)
+        for number in range(LEFT + 1):
+            self.reader(f"/s/site{number}/large")
+        self.assertTrue(select.select([started.stderr], [], [], PATIENCE)[0])
+        self.assertRegex(started.stderr.readline(), TOLD)
 
     def test_the_system_holds_as_much_of_a_reply_as_a_client_far_away_takes_at_once(self):
         """With less, each round trip would bring but a few bytes; with more, a slow client would be late."""
