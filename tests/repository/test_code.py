@@ -18,6 +18,8 @@ WIDE = (
     "change_undo", "host_disk", "record_file", "entry_texts", "change_journal", "host_opening", "chunk_lru", "single_flight", "peer_ring", "peer_link",
     "chunk_group", "host_api", "command_line", "world_read", "core_tests",
 )
+# crates without code that runs: laws, and what only clauses use
+OF_CLAUSES = {"growing", "sealed_logs"}
 
 
 class Rattle(unittest.TestCase):
@@ -50,7 +52,7 @@ class Rattle(unittest.TestCase):
             texts = [file.read_text() for file in self.files_of(name) if "laws" not in file.parts and file.name != "laws.rt"]
             counted = sum(len(re.findall(r"\bfn \w+", text)) for text in texts)
             with self.subTest(name):
-                self.assertGreater(counted, 0)
+                self.assertEqual(counted == 0, name in OF_CLAUSES)
                 if not name.endswith(("_tests", "_driver")):
                     self.assertLessEqual(counted, 110)
 

@@ -2,6 +2,7 @@
 use Rattle.std.proofs.Common.{◌≡◌, ◌⊎◌, ℕ, ◌+◌, ◌≤◌, Bool, IsTrue, false, true, refl, sym, subst, List, [], ◌∷◌, ◌++◌, length, ◌∙◌, ap, arith, length-append, All, Result, Err}
 use Rattle.std.proofs.lemmas.Bool.{false≢true}
 use Rattle.std.proofs.lemmas.List.Elements.{All-push}
+use Rattle.change_log.specs.Logs.{IsWhole, Log, last_number, with_entry}
 use Rattle.site_change.specs.declared.entries.Entry.{Entry}
 use Rattle.host_disk.specs.Calls.{DiskCall}
 use Rattle.record_file.specs.Failures.{MayFailPutting}
@@ -83,14 +84,15 @@ module _ {D : Type 0} (moment : D → ℕ) (left_since : D → ℕ → List ℕ 
         by_case false is = torn_after (order_of old.turned) (first_of old) (second_of old) (first_of new) (second_of new) entries entry writable lawful (order_new old.turned) (run is)
 
 -- a journal with the entry that was put
-pub sound_with : {D : Type 0} (modelled : Bool) (may_leave : D → List ℕ → Type 0) (old new : Slots D) (entries more : List Entry) (entry : Entry)
-    → more ≡ entries ++ entry ∷ [] → All IsWritable entries → IsWritable entry → old.records.position.count ≡ length entries → new.records.position.count ≡ old.records.position.count + 1 → new.records.broken ≡ false → (old.records.broken ≡ true → new ≡ old)
-    → (IsTrue modelled → old.records.broken ≡ false → ArePaired may_leave old (texts entries)) → (IsTrue modelled → ArePaired may_leave old (texts entries) → ArePaired may_leave new (texts entries ++ entry_text entry ∷ [])) → IsSound modelled may_leave new more
-sound_with {D} modelled may_leave old new entries more entry more_is writable lawful count next whole same settled settles = record {
-  writable = subst (All IsWritable) (sym more_is) (All-push IsWritable entries entry writable lawful);
-  count = omega (arith, next, count, ap length more_is, length-append entries (entry ∷ []));
+pub sound_with : {D : Type 0} (modelled : Bool) (may_leave : D → List ℕ → Type 0) (old new : Slots D) (before more : Log) (entry : Entry)
+    → more ≡ with_entry before entry → IsWhole before → All IsWritable before.entries → IsWritable entry → old.records.position.count ≡ last_number before → new.records.position.count ≡ old.records.position.count + 1 → new.records.broken ≡ false → (old.records.broken ≡ true → new ≡ old)
+    → (IsTrue modelled → old.records.broken ≡ false → ArePaired may_leave old (texts before.entries)) → (IsTrue modelled → ArePaired may_leave old (texts before.entries) → ArePaired may_leave new (texts before.entries ++ entry_text entry ∷ [])) → IsSound modelled may_leave new more
+sound_with {D} modelled may_leave old new before more entry more_is all writable lawful count next whole same settled settles = record {
+  whole = subst IsWhole (sym more_is) (ap (λ (l : Log). with_entry l entry) all);
+  writable = subst (λ (l : Log). All IsWritable l.entries) (sym more_is) (All-push IsWritable before.entries entry writable lawful);
+  count = omega (arith, next, count, ap last_number more_is, length-append before.entries (entry ∷ []));
   settled = λ is_modelled still.
-      subst (λ (bodies : List (List ℕ)). ArePaired may_leave new bodies) (sym (ap texts more_is ∙ texts-push entries entry)) (settles is_modelled (settled is_modelled (was_whole old.records.broken refl)));
+      subst (λ (bodies : List (List ℕ)). ArePaired may_leave new bodies) (sym (ap (λ (l : Log). texts l.entries) more_is ∙ texts-push before.entries entry)) (settles is_modelled (settled is_modelled (was_whole old.records.broken refl)));
   torn = λ is_modelled broken. absurd (false≢true (sym whole ∙ broken));
 }
   where

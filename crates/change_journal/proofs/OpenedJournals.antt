@@ -1,6 +1,7 @@
 -- What the opening of two slots leaves of a journal.
 use Rattle.std.proofs.Common.{arith, ◌≡◌, ◌⊎◌, ℕ, ◌≤◌, Bool, List, [], ◌∷◌, ◌++◌, length, cond, IsTrue, true, false, inl, inr, refl, sym, ◌∙◌, ap, subst, All}
 use Rattle.std.proofs.lemmas.Bool.{false≢true}
+use Rattle.change_log.specs.Logs.{IsWhole, Log, empty_log, last_number}
 use Rattle.site_change.specs.declared.entries.Entry.{Entry}
 use Rattle.record_file.specs.declared.faults.OpenFault.{OpenFault}
 use Rattle.record_file.specs.declared.faults.OpenFault.TheVariants.{BadHeader, BadRecord, Device, OutOfMemory}
@@ -21,27 +22,27 @@ use Rattle.record_file.proofs.OneRead.{found_not_bad, bad_known, found_not_forei
 use Rattle.record_file.proofs.PairSteps.{opened_paired}
 
 -- the bodies that were handed on are the texts of these entries
-abbrev pub AreOf : List Entry → List (List ℕ) → Type 0
-AreOf log bodies = (bodies ≡ texts log) × All IsWritable log
+abbrev pub AreOf : Log → List (List ℕ) → Type 0
+AreOf log bodies = (bodies ≡ texts log.entries) × All IsWritable log.entries × IsWhole log
 
-pub none_taken : (log : List Entry) → log ≡ [] → AreOf log []
-none_taken [] none = (refl, λ k d low. absurd (omega (arith, low)))
-none_taken (e ∷ log) none = absurd (omega (arith, ap length none))
+pub none_taken : (log : Log) → log ≡ empty_log → AreOf log []
+none_taken log none = subst (λ (l : Log). AreOf l []) (sym none) (refl, λ k d low. absurd (omega (arith, low)), refl)
 
 -- two slots that were opened, by whether the second one is read
-abbrev pub HasOpenedSo : {D : Type 0} → (seen : D → List ℕ) → (may_leave : D → List ℕ → Type 0) → List Entry → Opened → (old_first old_second first second : D) → Type 0
+abbrev pub HasOpenedSo : {D : Type 0} → (seen : D → List ℕ) → (may_leave : D → List ℕ → Type 0) → Log → Opened → (old_first old_second first second : D) → Type 0
 HasOpenedSo seen may_leave log at old_first old_second first second =
     HasOpened (AreOf log) (λ header before. IsText header) at.position.gate at.position.count (seen old_first) (seen old_second) (cond at.turned (seen second) (seen first)) (cond at.turned (may_leave second) (may_leave first)) (cond at.turned (may_leave first) (may_leave second))
 
-module _ {D : Type 0} (seen : D → List ℕ) (may_leave : D → List ℕ → Type 0) (log : List Entry) (at : Opened) (old_first old_second first second : D) where
-  pub opened_sound : (modelled : Bool) (slots : Slots D) (held : List Entry) → held ≡ log → first_of slots ≡ first → second_of slots ≡ second → slots.turned ≡ at.turned → slots.records.position ≡ at.position → slots.records.broken ≡ false
+module _ {D : Type 0} (seen : D → List ℕ) (may_leave : D → List ℕ → Type 0) (log : Log) (at : Opened) (old_first old_second first second : D) where
+  pub opened_sound : (modelled : Bool) (slots : Slots D) (held : Log) → held ≡ log → first_of slots ≡ first → second_of slots ≡ second → slots.turned ≡ at.turned → slots.records.position ≡ at.position → slots.records.broken ≡ false
       → HasCounted (AreOf log) at.position.count → (IsTrue modelled → HasOpenedSo seen may_leave log at old_first old_second first second) → IsSound modelled may_leave slots held
   opened_sound modelled slots held held_is first_is second_is turned position whole_is counted has = record {
-    writable = subst (All IsWritable) (sym held_is) counted.has.1;
-    count = ap (λ p. p.count) position ∙ counted.count_is ∙ ap length counted.has.0 ∙ length-texts log ∙ ap length (sym held_is);
+    whole = subst IsWhole (sym held_is) counted.has.2;
+    writable = subst (λ (l : Log). All IsWritable l.entries) (sym held_is) counted.has.1;
+    count = ap (λ p. p.count) position ∙ counted.count_is ∙ ap length counted.has.0 ∙ length-texts log.entries ∙ omega (arith, ap last_number counted.has.2) ∙ ap last_number (sym held_is);
     settled = λ is_modelled whole.
         let o = has is_modelled in
-        let bodies_are : o.bodies ≡ texts held = o.has.0 ∙ ap texts (sym held_is) in
+        let bodies_are : o.bodies ≡ texts held.entries = o.has.0 ∙ ap (λ (l : Log). texts l.entries) (sym held_is) in
         subst (ArePaired may_leave slots) bodies_are (opened_paired seen may_leave slots at first second o.bodies first_is second_is turned position whole_is o.made);
     torn = λ is_modelled broken. absurd (false≢true (sym whole_is ∙ broken));
   }
@@ -50,20 +51,20 @@ module _ {D : Type 0} (seen : D → List ℕ) (may_leave : D → List ℕ → Ty
     found_bodies : FoundBoth o.bodies (seen old_first) (seen old_second)
     found_bodies = lawful_found (λ header before. IsText header) o.bodies (seen old_first) (seen old_second) o.found
 
-    pub found_texts : FoundBoth (texts log) (seen old_first) (seen old_second)
+    pub found_texts : FoundBoth (texts log.entries) (seen old_first) (seen old_second)
     found_texts = subst (λ (bs : List (List ℕ)). FoundBoth bs (seen old_first) (seen old_second)) o.has.0 found_bodies
 
     pub not_refused : at.position.count ≤ 1000000 → AreRefused (λ header before. IsText header) (seen old_first) (seen old_second) → ⊥
     not_refused few (inl foreign) = found_not_foreign o.bodies (seen old_first) (seen old_second) found_bodies foreign
     not_refused few (inr bad) = found_not_bad (λ header before. IsText header) bad.0 o.bodies (seen old_first) (seen old_second) (omega (arith, o.made.count_is, few)) o.found bad.1
 
-    pub found_had : (had : List Entry) → HoldsEntries had (seen old_first) (seen old_second) → log ≡ had
-    found_had had held = found_entries log had (seen old_first) (seen old_second) o.has.1 found_texts held
+    pub found_had : (had : List Entry) → HoldsEntries had (seen old_first) (seen old_second) → log.entries ≡ had
+    found_had had held = found_entries log.entries had (seen old_first) (seen old_second) o.has.1 found_texts held
 
-    pub is_one : IsOne (opened (texts log) ++ 0 ∷ []) (seen first) (may_leave first) (seen second) (may_leave second)
+    pub is_one : IsOne (opened (texts log.entries) ++ 0 ∷ []) (seen first) (may_leave first) (seen second) (may_leave second)
     is_one = by_turn at.turned (subst (λ (bs : List (List ℕ)). IsExactly (opened bs ++ 0 ∷ []) (cond at.turned (seen second) (seen first)) (cond at.turned (may_leave second) (may_leave first))) o.has.0 o.made.exactly) o.made.stale
       where
-        by_turn : (turned : Bool) → IsExactly (opened (texts log) ++ 0 ∷ []) (cond turned (seen second) (seen first)) (cond turned (may_leave second) (may_leave first)) → AllStale 1 (cond turned (may_leave first) (may_leave second)) → IsOne (opened (texts log) ++ 0 ∷ []) (seen first) (may_leave first) (seen second) (may_leave second)
+        by_turn : (turned : Bool) → IsExactly (opened (texts log.entries) ++ 0 ∷ []) (cond turned (seen second) (seen first)) (cond turned (may_leave second) (may_leave first)) → AllStale 1 (cond turned (may_leave first) (may_leave second)) → IsOne (opened (texts log.entries) ++ 0 ∷ []) (seen first) (may_leave first) (seen second) (may_leave second)
         by_turn false exactly stale = in_first exactly stale
         by_turn true exactly stale = in_second exactly stale
 

@@ -1,6 +1,5 @@
 -- Which entries the two slots of a journal hold, whatever a crash leaves of them.
 use Rattle.std.specs.Prelude.{◌≡◌, ℕ, List, [], ◌∷◌, ◌++◌, map, All}
-use Rattle.change_log.specs.Logs.{Log, with_entry}
 use Rattle.site_change.specs.declared.entries.Entry.{Entry}
 use Rattle.record_file.specs.Frames.{framed}
 use Rattle.record_file.specs.Openings.{IsExactly}
@@ -10,9 +9,9 @@ use Rattle.entry_texts.specs.declared.versions.Version.TheVariants.{First}
 use Rattle.entry_texts.specs.Versions.{IsOfVersion}
 use Rattle.entry_texts.specs.Spells.{IsWritable, entry_text}
 
--- the texts of the entries of a log
-abbrev pub texts : Log → List (List ℕ)
-texts log = map entry_text log
+-- the texts of these entries
+abbrev pub texts : List Entry → List (List ℕ)
+texts entries = map entry_text entries
 
 -- the text of an entry behind its length, and the gate of the next record, which is shut
 pub record IsRecordOf (entry : Entry) (bytes : List ℕ) : Type 0 where
@@ -28,48 +27,48 @@ abbrev pub IsText : List ℕ → List ℕ → Type 0
 IsText header body = (entry : Entry) × (IsWritable entry × (MayHave header entry × (body ≡ entry_text entry)))
 
 -- these entries may be those of a file of version 1
-abbrev pub AreOld : Log → Type 0
-AreOld log = All (IsOfVersion First) log
+abbrev pub AreOld : List Entry → Type 0
+AreOld entries = All (IsOfVersion First) entries
 
--- Two slots hold the entries of a log. In the slot in use with the greater generation their texts are behind open gates, and then comes a 0, or a
+-- Two slots hold these entries. In the slot in use with the greater generation their texts are behind open gates, and then comes a 0, or a
 -- gate that is neither with one whole record of any body and a 0 behind it; or neither slot is in use, and there are none. A file of version 1 has
 -- only entries that it may have.
-pub record HoldsEntries (log : Log) (first second : List ℕ) : Type 0 where
-  pub writable : All IsWritable log
-  pub old : ReadsOld first second → AreOld log
-  pub holds : HoldBoth (texts log) first second
+pub record HoldsEntries (entries : List Entry) (first second : List ℕ) : Type 0 where
+  pub writable : All IsWritable entries
+  pub old : ReadsOld first second → AreOld entries
+  pub holds : HoldBoth (texts entries) first second
 
 -- they hold these entries, with a gate of 0 after them
-pub record IsStored (log : Log) (first second : List ℕ) : Type 0 where
-  pub writable : All IsWritable log
-  pub old : ReadsOld first second → AreOld log
-  pub shut : ReadsShut (texts log) first second
+pub record IsStored (entries : List Entry) (first second : List ℕ) : Type 0 where
+  pub writable : All IsWritable entries
+  pub old : ReadsOld first second → AreOld entries
+  pub shut : ReadsShut (texts entries) first second
 
 -- whatever a crash leaves of the one slot and of the other, these entries are stored
-abbrev pub AllStored : (List ℕ → Type 0) → (List ℕ → Type 0) → Log → Type 0
-AllStored first second log = (a b : List ℕ) → first a → second b → IsStored log a b
+abbrev pub AllStored : (List ℕ → Type 0) → (List ℕ → Type 0) → List Entry → Type 0
+AllStored first second entries = (a b : List ℕ) → first a → second b → IsStored entries a b
 
 -- What a stop may leave of two slots of this order while an entry is put after these, or while they are opened. The slot that is read has these,
 -- with a 0 and any bytes behind them; or with the record of that entry whole behind a gate that is neither 0 nor open; or these and that entry. The
 -- other slot isn't read beside it, or has the file of the next generation, with these or those. Or neither is in use, and there are none. If a file
 -- of version 1 is read, it may have all of them.
-pub record MayHoldNext (order : Order) (log : Log) (entry : Entry) (first second : List ℕ → Type 0) : Type 0 where
-  pub writable : All IsWritable (with_entry log entry)
-  pub old : IsOldOrder order → AreOld (with_entry log entry)
-  pub one : (c : List ℕ) → first c → LeftOfFirst order (texts log) (entry_text entry) c
-  pub other : (c : List ℕ) → second c → LeftOfSecond order (texts log) (entry_text entry) c
+pub record MayHoldNext (order : Order) (entries : List Entry) (entry : Entry) (first second : List ℕ → Type 0) : Type 0 where
+  pub writable : All IsWritable (entries ++ entry ∷ [])
+  pub old : IsOldOrder order → AreOld (entries ++ entry ∷ [])
+  pub one : (c : List ℕ) → first c → LeftOfFirst order (texts entries) (entry_text entry) c
+  pub other : (c : List ℕ) → second c → LeftOfSecond order (texts entries) (entry_text entry) c
 
 -- a crash at any moment since leaves that
-pub record LeavesNext {D : Type 0} (moment : D → ℕ) (left_since : D → ℕ → List ℕ → Type 0) (order : Order) (log : Log) (entry : Entry) (first second new_first new_second : D) : Type 0 where
-  pub writable : All IsWritable (with_entry log entry)
-  pub old : IsOldOrder order → AreOld (with_entry log entry)
-  pub leaves : BothLeave moment left_since order (texts log) (entry_text entry) first second new_first new_second
+pub record LeavesNext {D : Type 0} (moment : D → ℕ) (left_since : D → ℕ → List ℕ → Type 0) (order : Order) (entries : List Entry) (entry : Entry) (first second new_first new_second : D) : Type 0 where
+  pub writable : All IsWritable (entries ++ entry ∷ [])
+  pub old : IsOldOrder order → AreOld (entries ++ entry ∷ [])
+  pub leaves : BothLeave moment left_since order (texts entries) (entry_text entry) first second new_first new_second
 
 -- what a put that the device failed may have left: there is one entry more, and whatever a crash leaves is what a stop may leave while it is put
-pub record MayHoldMore (first second : List ℕ → Type 0) (log : Log) : Type 0 where
+pub record MayHoldMore (first second : List ℕ → Type 0) (entries : List Entry) : Type 0 where
   pub next : Entry
   pub order : Order
-  pub left : MayHoldNext order log next first second
+  pub left : MayHoldNext order entries next first second
 
 -- one of two slots reads as this file, and a crash leaves nothing else of it; whatever a crash leaves of the other one, that isn't read
 pub data IsOne (file seen_first : List ℕ) (first : List ℕ → Type 0) (seen_second : List ℕ) (second : List ℕ → Type 0) : Type 0 where

@@ -1,5 +1,6 @@
 //! The entries that a journal's file has, taken one after another.
 ghost use Rattle.std.specs.Prelude.{◌≡◌, [], All, IfOk, IsErrOf};
+ghost use Rattle.change_log.specs.Logs.{IsWhole, empty_log};
 ghost use Rattle.entry_texts.specs.Spells.{IsWritable, Spells};
 ghost use Rattle.entry_texts.specs.declared.versions.Version.TheVariants.{First};
 ghost use Rattle.record_file.specs.Slots.{old_header};
@@ -40,7 +41,7 @@ pub(crate) struct Collected {
 impl Collected {
     /// None yet.
     pub(crate) fn new(alloc: Global) -> Collected
-        ensures { result.log ≡ [] }
+        ensures { result.log ≡ empty_log }
     {
         Collected {
             alloc,
@@ -52,7 +53,7 @@ impl Collected {
 impl Bodies for Collected {
     ghost is_lawful = { λ header before. IsText header };
 
-    ghost has = { λ collected bodies. (bodies ≡ texts collected.log) × All IsWritable collected.log };
+    ghost has = { λ collected bodies. (bodies ≡ texts collected.log.entries) × All IsWritable collected.log.entries × IsWhole collected.log };
 
     fn take(&mut self, header: &[u8], body: &[u8]) -> Result<(), BodyFault> {
         let entry = match decode_of(self.alloc, header, body) {

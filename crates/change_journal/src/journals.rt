@@ -1,7 +1,6 @@
 //! The journal of a history.
 ghost use Rattle.std.specs.Prelude.{◌≡◌, ◌⊎◌, ◌<◌, ◌≤◌, ◌+◌, ◌++◌, ◌∷◌, [], ℕ, All, Err, IfErr, IfOk, IsErrOf, IsTrue, List, MatchResult, OnErr, OnOk, false, length, true};
-ghost use Rattle.change_log.specs.Logs;
-ghost use Rattle.change_log.specs.Logs.{last_number, with_entry};
+ghost use Rattle.change_log.specs.Logs.{IsWhole, last_number, with_entry};
 ghost use Rattle.site_change.specs.declared.entries.Entry as entries;
 ghost use Rattle.record_file.specs.declared.faults.OpenFault.TheVariants.{BadHeader, BadRecord, Device, OutOfMemory};
 ghost use Rattle.record_file.specs.declared.records.PutFault.TheVariants as put_fault;
@@ -35,9 +34,12 @@ pub struct Journal<D: Disk> {
 
 impl<D: Disk> Model for Journal<D> {
     ghost use Rattle.record_file.specs.Pairs.{first_of, second_of};
-    ghost use Rattle.change_journal.specs.Held.{IsSound, Keeps, entries_of};
+    ghost use Rattle.change_log.specs.contracts.logs.Log as log;
+    ghost use Rattle.change_journal.specs.Held.{IsSound, Keeps, coded_keeps, entries_of};
 
     ghost Value = { Keeps D };
+
+    ghost coded = { coded_keeps log.the_row.coded D.code };
 
     ghost view = { λ j. record { entries = entries_of j.held; broken = j.slots.records.broken; first = first_of j.slots; second = second_of j.slots } };
 
@@ -61,14 +63,15 @@ impl<D: Disk> Journal<D> {
     /// record or the 1,000,001st follows an open gate.
     pub fn open(alloc: Global, first: D, second: D) -> Result<(Journal<D>, Log), NotOpened<D>>
         ensures entries { IfOk result (λ answer. (answer.0.entries ≡ answer.1) × (answer.0.broken ≡ false)) }
-        ensures writable { IfOk result (λ answer. All IsWritable answer.1) }
+        ensures whole { IfOk result (λ answer. IsWhole answer.1) }
+        ensures writable { IfOk result (λ answer. All IsWritable answer.1.entries) }
         ensures few { IfOk result (λ answer. last_number answer.1 ≤ 1000000) }
         ensures found { IsTrue D.is_modelled
-            → IfOk result (λ answer. FoundBoth (texts answer.1) (D.seen first) (D.seen second)) }
-        ensures exactly { IsTrue D.is_modelled → IfOk result (λ answer. IsOne (opened (texts answer.1) ++ 0 ∷ [])
+            → IfOk result (λ answer. FoundBoth (texts answer.1.entries) (D.seen first) (D.seen second)) }
+        ensures exactly { IsTrue D.is_modelled → IfOk result (λ answer. IsOne (opened (texts answer.1.entries) ++ 0 ∷ [])
             (D.seen answer.0.first) (D.may_leave answer.0.first) (D.seen answer.0.second) (D.may_leave answer.0.second)) }
         ensures stored { IsTrue D.is_modelled → IfOk result (λ answer.
-            AllStored (D.may_leave answer.0.first) (D.may_leave answer.0.second) answer.1) }
+            AllStored (D.may_leave answer.0.first) (D.may_leave answer.0.second) answer.1.entries) }
         ensures bad_header { IsTrue D.is_modelled
             → IfErr result (λ stop. stop.fault ≡ BadHeader → AreForeign (D.seen first) (D.seen second)) }
         ensures bad_record { IsTrue D.is_modelled → IfErr result (λ stop. (i : ℕ) → stop.fault ≡ BadRecord i
@@ -85,9 +88,9 @@ impl<D: Disk> Journal<D> {
             (λ answer. IsOnlyRead D.seen D.may_leave D.moment D.left_since second answer.0.second)
             (λ stop. IsOnlyRead D.seen D.may_leave D.moment D.left_since second stop.second) }
         ensures kept { IsTrue D.is_modelled
-            → (had : Logs.Log) → last_number had ≤ 1000000 → HoldsEntries had (D.seen first) (D.seen second)
-            → MatchResult result (λ answer. answer.1 ≡ had) (λ stop. (stop.fault ≡ Device) ⊎ (stop.fault ≡ OutOfMemory)) }
-        ensures any_moment { IsTrue D.is_modelled → (order : Order) (had : Logs.Log) (next : entries.Entry)
+            → (had : List entries.Entry) → length had ≤ 1000000 → HoldsEntries had (D.seen first) (D.seen second)
+            → MatchResult result (λ answer. answer.1.entries ≡ had) (λ stop. (stop.fault ≡ Device) ⊎ (stop.fault ≡ OutOfMemory)) }
+        ensures any_moment { IsTrue D.is_modelled → (order : Order) (had : List entries.Entry) (next : entries.Entry)
             → MayHoldNext order had next (D.may_leave first) (D.may_leave second) → MatchResult result
             (λ answer. LeavesNext D.moment D.left_since order had next first second answer.0.first answer.0.second)
             (λ stop. LeavesNext D.moment D.left_since order had next first second stop.first stop.second) }
@@ -127,11 +130,12 @@ impl<D: Disk> Journal<D> {
     /// Whether the device failed during a put. A broken journal puts nothing more, and has to be opened again.
     pub fn is_broken(&self) -> bool
         ensures value { result ≡ self.now.broken }
-        ensures writable { All IsWritable self.now.entries }
+        ensures whole { IsWhole self.now.entries }
+        ensures writable { All IsWritable self.now.entries.entries }
         ensures stored { IsTrue D.is_modelled → result ≡ false
-            → AllStored (D.may_leave self.now.first) (D.may_leave self.now.second) self.now.entries }
+            → AllStored (D.may_leave self.now.first) (D.may_leave self.now.second) self.now.entries.entries }
         ensures torn { IsTrue D.is_modelled → result ≡ true
-            → MayHoldMore (D.may_leave self.now.first) (D.may_leave self.now.second) self.now.entries }
+            → MayHoldMore (D.may_leave self.now.first) (D.may_leave self.now.second) self.now.entries.entries }
     {
         self.slots.is_broken()
     }
@@ -147,15 +151,15 @@ impl<D: Disk> Journal<D> {
         ensures refused { IsTrue self.old.broken → (result ≡ Err put_fault.Broken) × (self.new ≡ self.old) }
         ensures only_broken { IsErrOf result put_fault.Broken → IsTrue self.old.broken }
         ensures stored { IsTrue D.is_modelled
-            → OnOk result (AllStored (D.may_leave self.new.first) (D.may_leave self.new.second) self.new.entries) }
+            → OnOk result (AllStored (D.may_leave self.new.first) (D.may_leave self.new.second) self.new.entries.entries) }
         ensures any_moment { IsTrue D.is_modelled → self.old.broken ≡ false → (order : Order) × LeavesNext D.moment
-            D.left_since order self.old.entries prepared self.old.first self.old.second self.new.first self.new.second }
+            D.left_since order self.old.entries.entries prepared self.old.first self.old.second self.new.first self.new.second }
         ensures held { IsTrue D.is_modelled → self.old.broken ≡ false → (a b : List ℕ)
             → D.left_since self.new.first (D.moment self.old.first) a
             → D.left_since self.new.second (D.moment self.old.second) b
-            → HoldsEntries self.old.entries a b ⊎ HoldsEntries (with_entry self.old.entries prepared) a b }
+            → HoldsEntries self.old.entries.entries a b ⊎ HoldsEntries (self.old.entries.entries ++ prepared ∷ []) a b }
         ensures reason { IsTrue D.is_modelled → IsErrOf result put_fault.Device → MayFailPutting D.seen D.may_fail
-            (opened (texts self.old.entries)) (length (framed (entry_text prepared)) + 1) }
+            (opened (texts self.old.entries.entries)) (length (framed (entry_text prepared)) + 1) }
         ensures cause { MatchResult result (λ _. (D.faults self.new.first ≡ D.faults self.old.first)
             × (D.faults self.new.second ≡ D.faults self.old.second)) (λ fault. BreaksEither fault
             (D.faults self.old.first) (D.faults self.old.second) (D.faults self.new.first) (D.faults self.new.second)) }

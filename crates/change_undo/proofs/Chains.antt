@@ -1,5 +1,5 @@
 -- The entries of each site, found from the last one on.
-use Rattle.std.proofs.Common.{◌≡◌, ℕ, zero, suc, ◌+◌, ◌-◌, ◌<◌, ◌≤◌, ◌==◌, Bool, true, false, cond, List, [], ◌∷◌, ◌++◌, length, map, filter, reverse, slice_get, Option, Some, unwrap_or, refl, sym, ap, subst, ◌∙◌, arith, eq-eqb}
+use Rattle.std.proofs.Common.{◌≡◌, ℕ, zero, suc, ◌+◌, ◌-◌, ◌<◌, ◌≤◌, Bool, true, false, cond, List, [], ◌∷◌, ◌++◌, length, map, filter, reverse, slice_get, Option, Some, unwrap_or, refl, sym, ap, subst, ◌∙◌, arith}
 use Rattle.std.specs.Cmp.{IsTotalOrder}
 use Rattle.std.specs.FinMap.{find, IsAntisymmetric, nat_cmp-IsAntisymmetric, slice_cmp-IsAntisymmetric}
 use Rattle.std.specs.List.{enumerate_from}
@@ -7,7 +7,7 @@ use Rattle.std.specs.List.Sorted.{IsStrictlySortedBy}
 use Rattle.std.specs.Map.{keys_of}
 use Rattle.std.specs.Ordering.{eq_by_cmp}
 use Rattle.std.specs.Str.{bytes_eq}
-use Rattle.std.proofs.lemmas.Bool.{eqb-true}
+use Rattle.std.proofs.lemmas.Bool.{le-leb, lt-leb}
 use Rattle.std.proofs.lemmas.Bool.Decides.{same_from_decides}
 use Rattle.std.proofs.lemmas.Cmp.{on_total, nat_list_cmp_total}
 use Rattle.std.proofs.lemmas.List.{length-append, map-append, reverse-append}
@@ -20,7 +20,7 @@ use Rattle.persistent_maps.proofs.Edits.{find-edited, Rises-edited}
 use Rattle.site_change.specs.declared.entries.Entry.{Entry}
 use Rattle.site_change.specs.Entries.{site_of_entry}
 use Rattle.change_undo.specs.Histories.{same_site}
-use Rattle.change_log.specs.Logs.{Log, numbered}
+use Rattle.change_log.specs.Logs.{Log, next_number, numbered, with_entry, with_only}
 use Rattle.change_undo.specs.SiteEntries.{numbers_of}
 use Rattle.change_undo.specs.SiteIndexes.{site_cmp, last_of, before, trail, Leads, LeadsOn, AreChained}
 
@@ -53,54 +53,53 @@ slice_get-pushed [] x (suc i) at = absurd (omega (arith, at))
 slice_get-pushed (y ∷ xs) x zero at = absurd (omega (arith, at))
 slice_get-pushed (y ∷ xs) x (suc i) at = slice_get-pushed xs x i (omega (arith, at))
 
-nonzero : (n : ℕ) → 0 < n → (n == 0) ≡ false
-nonzero n some = elim (n == 0) as (λ t. (n == 0) ≡ t → t ≡ false) [ true ↦ λ e. absurd (omega (arith, eqb-true n 0 e, some)) | false ↦ λ e. refl ] refl
-
 -- a number leads to no other with more entries
-Leads-more : (earlier more : List ℕ) (n : ℕ) (ks : List ℕ) → Leads earlier n ks → Leads (earlier ++ more) n ks
-Leads-more earlier more n [] h = h
-Leads-more earlier more n (k ∷ ks) h =
+Leads-more : (base : ℕ) (earlier more : List ℕ) (n : ℕ) (ks : List ℕ) → Leads base earlier n ks → Leads base (earlier ++ more) n ks
+Leads-more base earlier more n [] h = h
+Leads-more base earlier more n (k ∷ ks) h =
     let long = length-append earlier more in
-    let same : before earlier k ≡ before (earlier ++ more) k = ap (λ (o : Option ℕ). unwrap_or o 0) (sym (slice_get-front earlier more (k - 1) (omega (arith, h.1, h.2)))) in (
+    let same : before base earlier k ≡ before base (earlier ++ more) k =
+    ap (λ (o : Option ℕ). unwrap_or o 0) (sym (slice_get-front earlier more (k - base - 1) (omega (arith, h.1, h.2)))) in (
       h.0,
       h.1,
       omega (arith, long, h.2),
       subst (λ m. m < k) same h.3,
-      subst (λ m. Leads (earlier ++ more) m ks) same (Leads-more earlier more (before earlier k) ks h.4),
+      subst (λ m. Leads base (earlier ++ more) m ks) same (Leads-more base earlier more (before base earlier k) ks h.4),
     )
 
-Leads-within : (earlier : List ℕ) (n : ℕ) (ks : List ℕ) → Leads earlier n ks → n ≤ length earlier
-Leads-within earlier n [] h = omega (arith, h)
-Leads-within earlier n (k ∷ ks) h = omega (arith, h.0, h.2)
+Leads-within : (base : ℕ) (earlier : List ℕ) (n : ℕ) (ks : List ℕ) → Leads base earlier n ks → n ≤ base + length earlier
+Leads-within base earlier n [] h = omega (arith, h)
+Leads-within base earlier n (k ∷ ks) h = omega (arith, h.0, h.2)
 
-pub trail-is : (earlier : List ℕ) (most n : ℕ) (ks : List ℕ) → n ≤ most → Leads earlier n ks → trail earlier most n ≡ ks
-trail-is earlier zero n [] few h = refl
-trail-is earlier (suc most) n [] few h = ap (λ t. cond t [] (n ∷ trail earlier most (before earlier n))) (eq-eqb n 0 h)
-trail-is earlier zero n (k ∷ ks) few h = absurd (omega (arith, few, h.0, h.1))
-trail-is earlier (suc most) n (k ∷ ks) few h =
-    ap (λ t. cond t [] (n ∷ trail earlier most (before earlier n))) (nonzero n (omega (arith, h.0, h.1)))
-    ∙ ap (λ m. m ∷ trail earlier most (before earlier m)) h.0
-    ∙ ap (λ ms. k ∷ ms) (trail-is earlier most (before earlier k) ks (omega (arith, few, h.0, h.3)) h.4)
+pub trail-is : (base : ℕ) (earlier : List ℕ) (most n : ℕ) (ks : List ℕ) → n ≤ most → Leads base earlier n ks → trail base earlier most n ≡ ks
+trail-is base earlier zero n [] few h = refl
+trail-is base earlier (suc most) n [] few h = ap (λ t. cond t [] (n ∷ trail base earlier most (before base earlier n))) (le-leb n base h)
+trail-is base earlier zero n (k ∷ ks) few h = absurd (omega (arith, few, h.0, h.1))
+trail-is base earlier (suc most) n (k ∷ ks) few h =
+    ap (λ t. cond t [] (n ∷ trail base earlier most (before base earlier n))) (lt-leb n base (omega (arith, h.0, h.1)))
+    ∙ ap (λ m. m ∷ trail base earlier most (before base earlier m)) h.0
+    ∙ ap (λ ms. k ∷ ms) (trail-is base earlier most (before base earlier k) ks (omega (arith, few, h.0, h.3)) h.4)
 
 -- one step along a trail
-step_along : (earlier : List ℕ) (n : ℕ) (ks : List ℕ) → 0 < n → Leads earlier n ks
-    → LeadsOn earlier (before earlier n) × (trail earlier n n ≡ n ∷ trail earlier (before earlier n) (before earlier n))
-step_along earlier n [] some h = absurd (omega (arith, some, h))
-step_along earlier n (k ∷ ks) some h =
-    let next = before earlier n in
-    let rest : Leads earlier next ks = subst (λ m. Leads earlier (before earlier m) ks) (sym h.0) h.4 in (
+step_along : (base : ℕ) (earlier : List ℕ) (n : ℕ) (ks : List ℕ) → base < n → Leads base earlier n ks
+    → LeadsOn base earlier (before base earlier n) × (trail base earlier n n ≡ n ∷ trail base earlier (before base earlier n) (before base earlier n))
+step_along base earlier n [] some h = absurd (omega (arith, some, h))
+step_along base earlier n (k ∷ ks) some h =
+    let next = before base earlier n in
+    let rest : Leads base earlier next ks = subst (λ m. Leads base earlier (before base earlier m) ks) (sym h.0) h.4 in (
       record { numbers = ks; leads = rest },
-      trail-is earlier n n (k ∷ ks) (omega arith) h ∙ ap (λ m. m ∷ ks) (sym h.0) ∙ ap (λ ms. n ∷ ms) (sym (trail-is earlier next next ks (omega arith) rest)),
+      trail-is base earlier n n (k ∷ ks) (omega arith) h ∙ ap (λ m. m ∷ ks) (sym h.0) ∙ ap (λ ms. n ∷ ms) (sym (trail-is base earlier next next ks (omega arith) rest)),
     )
 
-pub leads-on : (earlier : List ℕ) (n : ℕ) → 0 < n → LeadsOn earlier n → LeadsOn earlier (before earlier n)
-leads-on earlier n some on = (step_along earlier n on.numbers some on.leads).0
+pub leads-on : (base : ℕ) (earlier : List ℕ) (n : ℕ) → base < n → LeadsOn base earlier n → LeadsOn base earlier (before base earlier n)
+leads-on base earlier n some on = (step_along base earlier n on.numbers some on.leads).0
 
-pub trail-next : (earlier : List ℕ) (n : ℕ) → 0 < n → LeadsOn earlier n → trail earlier n n ≡ n ∷ trail earlier (before earlier n) (before earlier n)
-trail-next earlier n some on = (step_along earlier n on.numbers some on.leads).1
+pub trail-next : (base : ℕ) (earlier : List ℕ) (n : ℕ) → base < n → LeadsOn base earlier n
+    → trail base earlier n n ≡ n ∷ trail base earlier (before base earlier n) (before base earlier n)
+trail-next base earlier n some on = (step_along base earlier n on.numbers some on.leads).1
 
-pub trail-ends : (earlier : List ℕ) (n : ℕ) → n ≡ 0 → trail earlier n n ≡ []
-trail-ends earlier n none = ap (λ m. trail earlier m m) none
+pub trail-ends : (base : ℕ) (earlier : List ℕ) (n : ℕ) → n ≤ base → trail base earlier n n ≡ []
+trail-ends base earlier n low = trail-is base earlier n n [] (omega arith) low
 
 -- ---- one entry more
 
@@ -114,13 +113,13 @@ newest_first : (b : Bool) (n : ℕ) (e : Entry) (ns : List ℕ) → reverse (map
 newest_first true n e ns = refl
 newest_first false n e ns = refl
 
-numbers-push : (log : Log) (e : Entry) (site : SiteName) (n : ℕ) → n ≡ length log + 1
-    → reverse (numbers_of (log ++ e ∷ []) site) ≡ cond (same_site (site_of_entry e) site) (n ∷ reverse (numbers_of log site)) (reverse (numbers_of log site))
+numbers-push : (log : Log) (e : Entry) (site : SiteName) (n : ℕ) → n ≡ next_number log
+    → reverse (numbers_of (with_entry log e) site) ≡ cond (same_site (site_of_entry e) site) (n ∷ reverse (numbers_of log site)) (reverse (numbers_of log site))
 numbers-push log e site n next =
     let test : ℕ × Entry → Bool = λ p. same_site (site_of_entry p.1) site in
     let number : ℕ × Entry → ℕ = λ p. p.0 in
-    let at : 1 + length log ≡ n = omega (arith, next) in
-    ap (λ ps. reverse (map number (filter test ps))) (enumerate_from-push 1 log e ∙ ap (λ m. numbered log ++ (m, e) ∷ []) at)
+    let at : log.base + 1 + length log.entries ≡ n = omega (arith, next) in
+    ap (λ ps. reverse (map number (filter test ps))) (enumerate_from-push (log.base + 1) log.entries e ∙ ap (λ m. numbered log ++ (m, e) ∷ []) at)
     ∙ ap (λ ps. reverse (map number ps)) (filter-append test (numbered log) ((n, e) ∷ []))
     ∙ ap reverse (map-append number (filter test (numbered log)) (filter test ((n, e) ∷ [])))
     ∙ reverse-append (map number (filter test (numbered log))) (map number (filter test ((n, e) ∷ [])))
@@ -138,49 +137,50 @@ last_of-push last own site n rises =
     ∙ ap (λ b. cond b n (last_of last site)) (is_eq-slice_cmp site.0 own.0 ∙ bytes_eq-swapped site.0 own.0)
 
 -- the newest entry leads to the entries of its site before it
-leads-push : (log : Log) (earlier : List ℕ) (n prior : ℕ) (ns : List ℕ) → n ≡ length log + 1 → length earlier ≡ length log → Leads earlier prior ns
-    → Leads (earlier ++ prior ∷ []) n (n ∷ ns)
+leads-push : (log : Log) (earlier : List ℕ) (n prior : ℕ) (ns : List ℕ) → n ≡ next_number log → length earlier ≡ length log.entries → Leads log.base earlier prior ns
+    → Leads log.base (earlier ++ prior ∷ []) n (n ∷ ns)
 leads-push log earlier n prior ns next same leads =
     let long = length-append earlier (prior ∷ []) in
-    let within = Leads-within earlier prior ns leads in
-    let at : prior ≡ before (earlier ++ prior ∷ []) n = ap (λ (o : Option ℕ). unwrap_or o 0) (sym (slice_get-pushed earlier prior (n - 1) (omega (arith, next, same)))) in (
+    let within = Leads-within log.base earlier prior ns leads in
+    let at : prior ≡ before log.base (earlier ++ prior ∷ []) n =
+    ap (λ (o : Option ℕ). unwrap_or o 0) (sym (slice_get-pushed earlier prior (n - log.base - 1) (omega (arith, next, same)))) in (
       refl,
       omega (arith, next),
       omega (arith, next, same, long),
       subst (λ m. m < n) at (omega (arith, next, same, within)),
-      subst (λ m. Leads (earlier ++ prior ∷ []) m ns) at (Leads-more earlier (prior ∷ []) prior ns leads),
+      subst (λ m. Leads log.base (earlier ++ prior ∷ []) m ns) at (Leads-more log.base earlier (prior ∷ []) prior ns leads),
     )
 
-pub chained-push : (log : Log) (e : Entry) (earlier : List ℕ) (last : List (SiteName × ℕ)) (n : ℕ) → n ≡ length log + 1 → AreChained log earlier last
-    → AreChained (log ++ e ∷ []) (earlier ++ last_of last (site_of_entry e) ∷ []) (edited site_cmp last (site_of_entry e) (Some n))
+pub chained-push : (log : Log) (e : Entry) (earlier : List ℕ) (last : List (SiteName × ℕ)) (n : ℕ) → n ≡ next_number log → AreChained log earlier last
+    → AreChained (with_entry log e) (earlier ++ last_of last (site_of_entry e) ∷ []) (edited site_cmp last (site_of_entry e) (Some n))
 chained-push log e earlier last n next chained =
     let own = site_of_entry e in
     let prior = last_of last own in
     let long = length-append earlier (prior ∷ []) in
-    let more = length-append log (e ∷ []) in
+    let more = length-append log.entries (e ∷ []) in
     record {
       lengths = omega (arith, chained.lengths, long, more);
       rises = Rises-edited site_cmp_total last own (Some n) chained.rises;
       leads = λ site.
           let ns = reverse (numbers_of log site) in
-          let P : ℕ → Type 0 = λ m. Leads (earlier ++ prior ∷ []) m (reverse (numbers_of (log ++ e ∷ []) site)) in
-          let Q : List ℕ → Type 0 = λ ks. Leads (earlier ++ prior ∷ []) (cond (same_site own site) n (last_of last site)) ks in
+          let P : ℕ → Type 0 = λ m. Leads log.base (earlier ++ prior ∷ []) m (reverse (numbers_of (with_entry log e) site)) in
+          let Q : List ℕ → Type 0 = λ ks. Leads log.base (earlier ++ prior ∷ []) (cond (same_site own site) n (last_of last site)) ks in
           subst P (sym (last_of-push last own site n chained.rises)) (subst Q (sym (numbers-push log e site n next))
-          (elim (same_site own site) as (λ b. same_site own site ≡ b → Leads (earlier ++ prior ∷ []) (cond b n (last_of last site)) (cond b (n ∷ ns) ns)) [
+          (elim (same_site own site) as (λ b. same_site own site ≡ b → Leads log.base (earlier ++ prior ∷ []) (cond b n (last_of last site)) (cond b (n ∷ ns) ns)) [
             | true ↦ λ it.
-                let R : SiteName → Type 0 = λ s. Leads earlier (last_of last s) ns in
+                let R : SiteName → Type 0 = λ s. Leads log.base earlier (last_of last s) ns in
                 leads-push log earlier n prior ns next chained.lengths (subst R (sym (same_site-is own site it)) (chained.leads site))
-            | false ↦ λ other. Leads-more earlier (prior ∷ []) (last_of last site) ns (chained.leads site)
+            | false ↦ λ other. Leads-more log.base earlier (prior ∷ []) (last_of last site) ns (chained.leads site)
           ] refl));
     }
 
 -- the same, of what is found to be these
-pub chained-after : (log more : Log) (e : Entry) (earlier others : List ℕ) (last pairs : List (SiteName × ℕ)) (prior n : ℕ) (own : SiteName) → n ≡ length log + 1 → AreChained log earlier last
-    → more ≡ log ++ e ∷ [] → own ≡ site_of_entry e → prior ≡ last_of last own → others ≡ earlier ++ prior ∷ [] → pairs ≡ edited site_cmp last own (Some n) → AreChained more others pairs
+pub chained-after : (log more : Log) (e : Entry) (earlier others : List ℕ) (last pairs : List (SiteName × ℕ)) (prior n : ℕ) (own : SiteName) → n ≡ next_number log → AreChained log earlier last
+    → more ≡ with_entry log e → own ≡ site_of_entry e → prior ≡ last_of last own → others ≡ earlier ++ prior ∷ [] → pairs ≡ edited site_cmp last own (Some n) → AreChained more others pairs
 chained-after log more e earlier others last pairs prior n own next chained is_more is_own is_prior are_others are_pairs =
     let P : Log → Type 0 = λ ls. AreChained ls others pairs in
-    let Q : List ℕ → Type 0 = λ ks. AreChained (log ++ e ∷ []) ks pairs in
-    let R : List (SiteName × ℕ) → Type 0 = λ ps. AreChained (log ++ e ∷ []) (earlier ++ last_of last (site_of_entry e) ∷ []) ps in
+    let Q : List ℕ → Type 0 = λ ks. AreChained (with_entry log e) ks pairs in
+    let R : List (SiteName × ℕ) → Type 0 = λ ps. AreChained (with_entry log e) (earlier ++ last_of last (site_of_entry e) ∷ []) ps in
     subst P (sym is_more) (subst Q (sym (are_others ∙ ap (λ m. earlier ++ m ∷ []) (is_prior ∙ ap (last_of last) is_own)))
     (subst R (sym (are_pairs ∙ ap (λ (s : SiteName). edited site_cmp last s (Some n)) is_own)) (chained-push log e earlier last n next chained)))
 
@@ -190,5 +190,11 @@ none_rise : IsStrictlySortedBy site_cmp []
 unfolding IsStrictlySortedBy
 none_rise = tt
 
-pub chained-none : AreChained [] [] []
-chained-none = record { lengths = refl; rises = none_rise; leads = λ site. refl }
+pub chained-none : (log : Log) → log.entries ≡ [] → AreChained log [] []
+chained-none log none = record {
+  lengths = ap (λ (es : List Entry). length es) (sym none);
+  rises = none_rise;
+  leads = λ site.
+      let P : List Entry → Type 0 = λ es. Leads log.base [] (last_of [] site) (reverse (numbers_of (with_only log es) site)) in
+      subst P (sym none) (omega arith);
+}

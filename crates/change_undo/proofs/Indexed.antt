@@ -42,23 +42,33 @@ plan_at-beyond [] i beyond = refl
 plan_at-beyond (x ∷ logged) zero beyond = absurd (omega (arith, beyond))
 plan_at-beyond (x ∷ logged) (suc i) beyond = plan_at-beyond logged i (omega (arith, beyond))
 
-pub plan_of-beyond : (logged : List PlannedEntry) (i : ℕ) → length logged < i → plan_of logged i ≡ None
-plan_of-beyond logged zero beyond = refl
-plan_of-beyond logged (suc i) beyond = number_at (plan_at logged) (suc i) i refl ∙ plan_at-beyond logged i (omega (arith, beyond))
+pub plan_of-beyond : (base : ℕ) (logged : List PlannedEntry) (i : ℕ) → base + length logged < i → plan_of base logged i ≡ None
+plan_of-beyond base logged i beyond =
+    let j : ℕ = i - base - 1 in
+    number_at (plan_at logged) base i j (omega (arith, beyond)) ∙ plan_at-beyond logged j (omega (arith, beyond))
 
-plan_of-push : (logged : List PlannedEntry) (l : PlannedEntry) (n i : ℕ) → n ≡ length logged + 1 → plan_of (logged ++ l ∷ []) i ≡ cond (i == n) l.plan (plan_of logged i)
-plan_of-push logged l n zero next = ap (λ b. cond b l.plan None) (sym (zero_not n (omega (arith, next))))
-plan_of-push logged l n (suc i) next =
-    number_at (plan_at (logged ++ l ∷ [])) (suc i) i refl ∙ plan_at-push logged l i
-    ∙ ap (cond (i == length logged) l.plan) (sym (number_at (plan_at logged) (suc i) i refl))
-    ∙ ap (λ b. cond b l.plan (plan_of logged (suc i))) (sym (suc_same i (length logged)) ∙ ap (λ m. suc i == m) (omega (arith, next)))
+-- whether two places are one, and whether their numbers are
+same_place : (base i n j m : ℕ) → i ≡ base + suc j → n ≡ base + suc m → (j == m) ≡ (i == n)
+same_place base i n j m at_i at_n =
+    sym (same_or_not i n (j == m) (λ e. omega (arith, at_i, at_n, eqb-true j m e)) (λ e. eq-eqb j m (omega (arith, at_i, at_n, e))))
 
-plan_of-undone : (logged : List PlannedEntry) (k i : ℕ) → 0 < k → plan_of (with_undone (k - 1) logged) i ≡ cond (i == k) None (plan_of logged i)
-plan_of-undone logged k zero some = ap (λ b. cond b None None) (sym (zero_not k some))
-plan_of-undone logged k (suc i) some =
-    number_at (plan_at (with_undone (k - 1) logged)) (suc i) i refl ∙ plan_at-undone (k - 1) logged i
-    ∙ ap (cond (i == k - 1) None) (sym (number_at (plan_at logged) (suc i) i refl))
-    ∙ ap (λ b. cond b None (plan_of logged (suc i))) (sym (suc_same i (k - 1)) ∙ ap (λ m. suc i == m) (omega (arith, some)))
+plan_of-push : (base : ℕ) (logged : List PlannedEntry) (l : PlannedEntry) (n i : ℕ) → n ≡ base + length logged + 1 → base < i
+    → plan_of base (logged ++ l ∷ []) i ≡ cond (i == n) l.plan (plan_of base logged i)
+plan_of-push base logged l n i next above =
+    let j : ℕ = i - base - 1 in
+    let at : i ≡ base + suc (i - base - 1) = omega (arith, above) in
+    number_at (plan_at (logged ++ l ∷ [])) base i j at ∙ plan_at-push logged l j
+    ∙ ap (cond (j == length logged) l.plan) (sym (number_at (plan_at logged) base i j at))
+    ∙ ap (λ b. cond b l.plan (plan_of base logged i)) (same_place base i n j (length logged) at (omega (arith, next)))
+
+plan_of-undone : (base : ℕ) (logged : List PlannedEntry) (k i : ℕ) → base < k → base < i
+    → plan_of base (with_undone (k - base - 1) logged) i ≡ cond (i == k) None (plan_of base logged i)
+plan_of-undone base logged k i some above =
+    let j : ℕ = i - base - 1 in
+    let at : i ≡ base + suc (i - base - 1) = omega (arith, above) in
+    number_at (plan_at (with_undone (k - base - 1) logged)) base i j at ∙ plan_at-undone (k - base - 1) logged j
+    ∙ ap (cond (j == k - base - 1) None) (sym (number_at (plan_at logged) base i j at))
+    ∙ ap (λ b. cond b None (plan_of base logged i)) (same_place base i k j (k - base - 1) at (omega (arith, some)))
 
 -- ---- the index
 
@@ -67,12 +77,12 @@ has_key-cond true its other key = refl
 has_key-cond false its other key = refl
 
 -- where the plan of one number has become another
-other_plan : (new old : Postings) (after before : List PlannedEntry) (n : ℕ) (its : Option Plan) → IsIndexOf before old
-    → ((i : ℕ) → plan_of after i ≡ cond (i == n) its (plan_of before i))
-    → ((key i : ℕ) → is_posted new key i ≡ cond (i == n) (has_key its key) (is_posted old key i)) → IsIndexOf after new
-other_plan new old after before n its indexed plans posted = λ key i.
-    posted key i ∙ ap (cond (i == n) (has_key its key)) (indexed key i)
-    ∙ sym (ap (λ o. has_key o key) (plans i) ∙ has_key-cond (i == n) its (plan_of before i) key)
+other_plan : (new old : Postings) (base : ℕ) (after before : List PlannedEntry) (n : ℕ) (its : Option Plan) → IsIndexOf base before old
+    → ((i : ℕ) → base < i → plan_of base after i ≡ cond (i == n) its (plan_of base before i))
+    → ((key i : ℕ) → base < i → is_posted new key i ≡ cond (i == n) (has_key its key) (is_posted old key i)) → IsIndexOf base after new
+other_plan new old base after before n its indexed plans posted = λ key i above.
+    posted key i above ∙ ap (cond (i == n) (has_key its key)) (indexed key i above)
+    ∙ sym (ap (λ o. has_key o key) (plans i above) ∙ has_key-cond (i == n) its (plan_of base before i) key)
 
 added : (b l h : Bool) → (b ≡ true → h ≡ false) → cond (b && l) true h ≡ cond b l h
 added true true h none = refl
@@ -89,36 +99,40 @@ left true h none = none refl
 left false h none = refl
 
 -- no number beyond the last is posted
-beyond-posted : (index : Postings) (logged : List PlannedEntry) (n key i : ℕ) → n ≡ length logged + 1 → IsIndexOf logged index → (i == n) ≡ true → is_posted index key i ≡ false
-beyond-posted index logged n key i next indexed at =
-    indexed key i ∙ ap (λ o. has_key o key) (plan_of-beyond logged i (omega (arith, next, eqb-true i n at)))
+beyond-posted : (index : Postings) (base : ℕ) (logged : List PlannedEntry) (n key i : ℕ) → n ≡ base + length logged + 1 → IsIndexOf base logged index → (i == n) ≡ true
+    → is_posted index key i ≡ false
+beyond-posted index base logged n key i next indexed at =
+    indexed key i (omega (arith, next, eqb-true i n at))
+    ∙ ap (λ o. has_key o key) (plan_of-beyond base logged i (omega (arith, next, eqb-true i n at)))
 
 -- after a commit
-pub indexed-change : (new old : Postings) (logged : List PlannedEntry) (l : PlannedEntry) (plan : Plan) (n : ℕ) → n ≡ length logged + 1 → l.plan ≡ Some plan → IsIndexOf logged old
-    → IsPostedAs true n (touched_keys plan.touched) old new → IsIndexOf (logged ++ l ∷ []) new
-indexed-change new old logged l plan n next its indexed posted =
-    other_plan new old (logged ++ l ∷ []) logged n (Some plan) indexed
-    (λ i. plan_of-push logged l n i next ∙ ap (λ o. cond (i == n) o (plan_of logged i)) its)
-    (λ key i. posted key i ∙ added (i == n) (is_among key (touched_keys plan.touched)) (is_posted old key i) (beyond-posted old logged n key i next indexed))
+pub indexed-change : (new old : Postings) (base : ℕ) (logged : List PlannedEntry) (l : PlannedEntry) (plan : Plan) (n : ℕ) → n ≡ base + length logged + 1 → l.plan ≡ Some plan
+    → IsIndexOf base logged old → IsPostedAs true n (touched_keys plan.touched) old new → IsIndexOf base (logged ++ l ∷ []) new
+indexed-change new old base logged l plan n next its indexed posted =
+    other_plan new old base (logged ++ l ∷ []) logged n (Some plan) indexed
+    (λ i above. plan_of-push base logged l n i next above ∙ ap (λ o. cond (i == n) o (plan_of base logged i)) its)
+    (λ key i above. posted key i ∙ added (i == n) (is_among key (touched_keys plan.touched)) (is_posted old key i) (beyond-posted old base logged n key i next indexed))
 
 -- after an entry without a plan
-pub indexed-other : (index : Postings) (logged : List PlannedEntry) (l : PlannedEntry) → l.plan ≡ None → IsIndexOf logged index → IsIndexOf (logged ++ l ∷ []) index
-indexed-other index logged l none indexed =
-    let n = length logged + 1 in
-    other_plan index index (logged ++ l ∷ []) logged n None indexed
-    (λ i. plan_of-push logged l n i refl ∙ ap (λ o. cond (i == n) o (plan_of logged i)) none)
-    (λ key i. left (i == n) (is_posted index key i) (beyond-posted index logged n key i refl indexed))
+pub indexed-other : (index : Postings) (base : ℕ) (logged : List PlannedEntry) (l : PlannedEntry) → l.plan ≡ None → IsIndexOf base logged index
+    → IsIndexOf base (logged ++ l ∷ []) index
+indexed-other index base logged l none indexed =
+    let n = base + length logged + 1 in
+    other_plan index index base (logged ++ l ∷ []) logged n None indexed
+    (λ i above. plan_of-push base logged l n i refl above ∙ ap (λ o. cond (i == n) o (plan_of base logged i)) none)
+    (λ key i above. left (i == n) (is_posted index key i) (beyond-posted index base logged n key i refl indexed))
 
 -- where the plan of a change is taken away
-pub indexed-undone : (new old : Postings) (logged : List PlannedEntry) (plan : Plan) (k : ℕ) → 0 < k → plan_of logged k ≡ Some plan → IsIndexOf logged old
-    → IsPostedAs false k (touched_keys plan.touched) old new → IsIndexOf (with_undone (k - 1) logged) new
-indexed-undone new old logged plan k some its indexed posted =
-    other_plan new old (with_undone (k - 1) logged) logged k None indexed (λ i. plan_of-undone logged k i some)
-    (λ key i. posted key i ∙ taken (i == k) (is_among key (touched_keys plan.touched)) (is_posted old key i)
-    (λ at. indexed key i ∙ ap (λ o. has_key o key) (ap (plan_of logged) (eqb-true i k at) ∙ its)))
+pub indexed-undone : (new old : Postings) (base : ℕ) (logged : List PlannedEntry) (plan : Plan) (k : ℕ) → base < k → plan_of base logged k ≡ Some plan
+    → IsIndexOf base logged old → IsPostedAs false k (touched_keys plan.touched) old new → IsIndexOf base (with_undone (k - base - 1) logged) new
+indexed-undone new old base logged plan k some its indexed posted =
+    other_plan new old base (with_undone (k - base - 1) logged) logged k None indexed (λ i above. plan_of-undone base logged k i some above)
+    (λ key i above. posted key i ∙ taken (i == k) (is_among key (touched_keys plan.touched)) (is_posted old key i)
+    (λ at. indexed key i above ∙ ap (λ o. has_key o key) (ap (plan_of base logged) (eqb-true i k at) ∙ its)))
 
 -- where there is none
-pub indexed-gone : (index : Postings) (logged : List PlannedEntry) (k : ℕ) → 0 < k → plan_of logged k ≡ None → IsIndexOf logged index → IsIndexOf (with_undone (k - 1) logged) index
-indexed-gone index logged k some none indexed =
-    other_plan index index (with_undone (k - 1) logged) logged k None indexed (λ i. plan_of-undone logged k i some)
-    (λ key i. left (i == k) (is_posted index key i) (λ at. indexed key i ∙ ap (λ o. has_key o key) (ap (plan_of logged) (eqb-true i k at) ∙ none)))
+pub indexed-gone : (index : Postings) (base : ℕ) (logged : List PlannedEntry) (k : ℕ) → base < k → plan_of base logged k ≡ None → IsIndexOf base logged index
+    → IsIndexOf base (with_undone (k - base - 1) logged) index
+indexed-gone index base logged k some none indexed =
+    other_plan index index base (with_undone (k - base - 1) logged) logged k None indexed (λ i above. plan_of-undone base logged k i some above)
+    (λ key i above. left (i == k) (is_posted index key i) (λ at. indexed key i above ∙ ap (λ o. has_key o key) (ap (plan_of base logged) (eqb-true i k at) ∙ none)))

@@ -13,7 +13,7 @@ use Rattle.site_change.specs.declared.entries.Entry.{Entry}
 use Rattle.site_change.specs.declared.entries.Entry.TheVariants.{Change, Undo}
 use Rattle.change_undo.specs.Clashes.{IsClash, clash}
 use Rattle.change_undo.specs.Histories.{undone, is_among, live_from, live_changes, same_site, entry_at, marked, marked_entry, refusal_at, change_refusal, undo_refusal, IsLegalAfter, IsLegal}
-use Rattle.change_log.specs.Logs.{Log, BeginsWith, last_number}
+use Rattle.change_log.specs.Logs.{Log, BeginsWith, empty_log, last_number, with_entry, with_only}
 use Rattle.change_undo.proofs.LeavingOut.{live-at}
 use Rattle.change_undo.proofs.Opened.{at_place}
 use Rattle.change_undo.proofs.Places.{first_or_more}
@@ -50,64 +50,69 @@ listed gone n (Change other ∷ entries) k command at =
       ]
     ] refl at
 
-pub live-entry : (entries : List Entry) (k : ℕ) (command : Command) → Contains (live_changes entries) (k, command)
-    → (entry_at entries k ≡ Some (Change command)) × (is_among (undone entries) k ≡ false)
-live-entry entries k command at =
-    let it = listed (undone entries) 1 entries k command at in
-    (ap (entry_at entries) it.number ∙ at_place entries it.place (Change command) it.there, it.lives)
+pub live-entry : (log : Log) (k : ℕ) (command : Command) → Contains (live_changes log) (k, command)
+    → (entry_at log k ≡ Some (Change command)) × (is_among (undone log.entries) k ≡ false)
+live-entry log k command at =
+    let it = listed (undone log.entries) (log.base + 1) log.entries k command at in
+    (ap (entry_at log) it.number ∙ at_place log it.place (Change command) it.there, it.lives)
 
-pub live-marked : (entries : List Entry) (k : ℕ) (command : Command) → Contains (live_changes entries) (k, command)
-    → marked_entry entries k ≡ Some (Change command, false)
-live-marked entries k command at =
-    let it = live-entry entries k command at in
-    ap (option_map (marked (undone entries) k)) it.0 ∙ ap (λ t. Some (Change command, t)) it.1
+pub live-marked : (log : Log) (k : ℕ) (command : Command) → Contains (live_changes log) (k, command) → marked_entry log k ≡ Some (Change command, false)
+live-marked log k command at =
+    let it = live-entry log k command at in
+    ap (option_map (marked (undone log.entries) k)) it.0 ∙ ap (λ t. Some (Change command, t)) it.1
 
-place_of_number : (entries : List Entry) (k : ℕ) (entry : Entry) → entry_at entries k ≡ Some entry → slice_get entries (k - 1) ≡ Some entry
-place_of_number entries k entry e =
-    elim (k == 0) as (λ t. cond t None (slice_get entries (k - 1)) ≡ Some entry → slice_get entries (k - 1) ≡ Some entry) [ true ↦ λ h. cc h | false ↦ λ h. h ] e
+place_of_number : (log : Log) (k : ℕ) (entry : Entry) → entry_at log k ≡ Some entry → slice_get log.entries (k - log.base - 1) ≡ Some entry
+place_of_number log k entry e =
+    elim (nat_le k log.base) as (λ t. cond t None (slice_get log.entries (k - log.base - 1)) ≡ Some entry → slice_get log.entries (k - log.base - 1) ≡ Some entry) [
+      | true ↦ λ h. cc h
+      | false ↦ λ h. h
+    ] e
 
 -- and an entry that is a change, and none of the undone ones, lives
-pub entry-lives : (entries : List Entry) (k : ℕ) (command : Command) → entry_at entries k ≡ Some (Change command) → is_among (undone entries) k ≡ false
-    → Contains (live_changes entries) (k, command)
-entry-lives entries k command there lives =
-    let number : 1 + (k - 1) ≡ k = omega (arith, entry_at-some entries k (Change command) there) in
-    let P : ℕ → Type 0 = λ m. Contains (live_changes entries) (m, command) in
-    subst P number (live-at (undone entries) 1 (k - 1) entries command (place_of_number entries k (Change command) there) (ap (is_among (undone entries)) number ∙ lives))
+pub entry-lives : (log : Log) (k : ℕ) (command : Command) → entry_at log k ≡ Some (Change command) → is_among (undone log.entries) k ≡ false
+    → Contains (live_changes log) (k, command)
+entry-lives log k command there lives =
+    let number : log.base + 1 + (k - log.base - 1) ≡ k = omega (arith, entry_at-some log k (Change command) there) in
+    let P : ℕ → Type 0 = λ m. Contains (live_changes log) (m, command) in
+    subst P number (live-at (undone log.entries) (log.base + 1) (k - log.base - 1) log.entries command (place_of_number log k (Change command) there)
+    (ap (is_among (undone log.entries)) number ∙ lives))
 
 -- ---- an undo that nothing is against
 
 itself : (site : SiteName) → same_site site site ≡ true
 itself site = bytes_eq-itself site.0
 
-pub not_refused : (uploads : Contents) (limit : ℕ) (entries : List Entry) (k : ℕ) (command : Command) → Contains (live_changes entries) (k, command) → length entries < limit
-    → clash uploads entries k ≡ None → undo_refusal uploads limit entries (site_of_command command) k ≡ None
-not_refused uploads limit entries k command at room none =
-    let it = live-entry entries k command at in
+pub not_refused : (uploads : Contents) (limit : ℕ) (log : Log) (k : ℕ) (command : Command) → Contains (live_changes log) (k, command) → last_number log < limit
+    → clash uploads log k ≡ None → undo_refusal uploads limit log (site_of_command command) k ≡ None
+not_refused uploads limit log k command at room none =
+    let it = live-entry log k command at in
     let site = site_of_command command in
-    ap (λ t. cond t (Some HistoryFull) (change_refusal uploads entries site k)) (lt-leb limit (length entries) room)
-    ∙ ap (refusal_at uploads entries site k) it.0
-    ∙ ap (λ t. cond (not t) (Some NoSuchChange) (cond (is_among (undone entries) k) (Some AlreadyUndone) (option_map (λ later. Clash later.0 later.1) (clash uploads entries k)))) (itself site)
-    ∙ ap (λ t. cond t (Some AlreadyUndone) (option_map (λ later. Clash later.0 later.1) (clash uploads entries k))) it.1
+    ap (λ t. cond t (Some HistoryFull) (change_refusal uploads log site k)) (lt-leb limit (last_number log) room)
+    ∙ ap (refusal_at uploads log site k) it.0
+    ∙ ap (λ t. cond (not t) (Some NoSuchChange) (cond (is_among (undone log.entries) k) (Some AlreadyUndone) (option_map (λ later. Clash later.0 later.1) (clash uploads log k)))) (itself site)
+    ∙ ap (λ t. cond t (Some AlreadyUndone) (option_map (λ later. Clash later.0 later.1) (clash uploads log k))) it.1
     ∙ ap (λ c. option_map (λ later. Clash later.0 later.1) c) none
 
-pub no_clash-none : (uploads : Contents) (entries : List Entry) (k : ℕ) → IsLegal uploads entries → ((j : ℕ) (at : Cell) → IsClash uploads entries k j at → ⊥)
-    → clash uploads entries k ≡ None
-no_clash-none uploads entries k legal none =
-    let ran = legal-runs uploads entries legal in
-    elim (clash uploads entries k) as (λ c. clash uploads entries k ≡ c → c ≡ None) [
+pub no_clash-none : (uploads : Contents) (log : Log) (k : ℕ) → IsLegal uploads log → ((j : ℕ) (at : Cell) → IsClash uploads log k j at → ⊥)
+    → clash uploads log k ≡ None
+no_clash-none uploads log k legal none =
+    let ran = legal-runs uploads log legal in
+    elim (clash uploads log k) as (λ c. clash uploads log k ≡ c → c ≡ None) [
       | None ↦ λ e. refl
-      | Some later ↦ λ e. absurd (none later.0 later.1 (found_clash uploads entries k later.0 later.1 ran.0 ran.1 e))
+      | Some later ↦ λ e. absurd (none later.0 later.1 (found_clash uploads log k later.0 later.1 ran.0 ran.1 e))
     ] refl
 
 -- ---- beginnings
 
-legal-front : (uploads : Contents) (before entries more : List Entry) → IsLegalAfter uploads before (entries ++ more) → IsLegalAfter uploads before entries
+legal-front : (uploads : Contents) (before : Log) (entries more : List Entry) → IsLegalAfter uploads before (entries ++ more) → IsLegalAfter uploads before entries
 legal-front uploads before [] more legal = tt
-legal-front uploads before (entry ∷ entries) more legal = (legal.0, legal-front uploads (before ++ entry ∷ []) entries more legal.1)
+legal-front uploads before (entry ∷ entries) more legal = (legal.0, legal-front uploads (with_entry before entry) entries more legal.1)
 
 pub beginning-legal : (uploads : Contents) (log longer : Log) → BeginsWith longer log → IsLegal uploads longer → IsLegal uploads log
-beginning-legal uploads log longer begins legal = legal-front uploads [] log begins.0 (subst (IsLegal uploads) begins.1 legal)
+beginning-legal uploads log longer begins legal =
+    let whole = subst (IsLegal uploads) begins.1 legal in
+    (whole.0, legal-front uploads (with_only log []) log.entries begins.0 whole.1)
 
 -- no log begins with one that is longer
-pub not_longer : (entry : Entry) → BeginsWith [] (entry ∷ []) → ⊥
-not_longer entry (more, is) = cc is
+pub not_longer : (entry : Entry) → BeginsWith empty_log (with_entry empty_log entry) → ⊥
+not_longer entry (more, is) = let none : [] ≡ entry ∷ more = ap (λ (log : Log). log.entries) is in cc none

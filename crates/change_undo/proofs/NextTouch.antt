@@ -33,9 +33,9 @@ none-touched later (change ∷ changes) none =
     ] refl
 
 -- a change that is posted under none of the keys touches none of the cells
-pub untouched : (index : Postings) (logged : List PlannedEntry) (plan : Plan) (i : ℕ) → IsIndexOf logged index → may_touch_any index plan.changes.items i ≡ false
-    → first_touched plan (plan_of logged i) ≡ None
-untouched index logged plan i indexed none = one (plan_of logged i) (λ key. indexed key i)
+pub untouched : (index : Postings) (base : ℕ) (logged : List PlannedEntry) (plan : Plan) (i : ℕ) → base < i → IsIndexOf base logged index
+    → may_touch_any index plan.changes.items i ≡ false → first_touched plan (plan_of base logged i) ≡ None
+untouched index base logged plan i above indexed none = one (plan_of base logged i) (λ key. indexed key i above)
   where
     one : (its : Option Plan) → ((key : ℕ) → is_posted index key i ≡ has_key its key) → first_touched plan its ≡ None
     one None same = refl
@@ -49,10 +49,11 @@ none_any [] = refl
 none_any (x ∷ xs) = none_any xs
 
 -- what is posted is one of the entries
-pub within : (index : Postings) (logged : List PlannedEntry) (changes : List CellChange) (i : ℕ) → IsIndexOf logged index → may_touch_any index changes i ≡ true → i ≤ length logged
-within index logged changes i indexed posted = elim (cases_lt (length logged) i) [
+pub within : (index : Postings) (base : ℕ) (logged : List PlannedEntry) (changes : List CellChange) (i : ℕ) → base < i → IsIndexOf base logged index
+    → may_touch_any index changes i ≡ true → i ≤ base + length logged
+within index base logged changes i above indexed posted = elim (cases_lt (base + length logged) i) [
   | inl beyond ↦
-      let none : (key : ℕ) → is_posted index key i ≡ false = λ key. indexed key i ∙ ap (λ o. has_key o key) (plan_of-beyond logged i beyond) in
+      let none : (key : ℕ) → is_posted index key i ≡ false = λ key. indexed key i above ∙ ap (λ o. has_key o key) (plan_of-beyond base logged i beyond) in
       let empty : (change : CellChange) → covers (λ key. is_posted index key i) change.cell ≡ false =
       λ change. (λ j. covers (λ key. none key j) change.cell) ∙ covers-none change.cell in
       cc (sym posted ∙ (λ j. list_any (λ (change : CellChange). empty change j) changes) ∙ none_any changes)
@@ -66,40 +67,43 @@ drop_beyond (suc i) [] le = refl
 drop_beyond (suc i) (x ∷ xs) le = drop_beyond i xs (omega (arith, le))
 
 -- entries of which none touches a cell are passed over
-skip : (plan : Plan) (logged : List PlannedEntry) (a d : ℕ) → ((i : ℕ) → a < i → i ≤ a + d → first_touched plan (plan_of logged i) ≡ None)
-    → kept_touch plan (a + 1) (drop a logged) ≡ kept_touch plan (a + d + 1) (drop (a + d) logged)
-skip plan logged a zero none = let e : a + 0 ≡ a = omega arith in λ j. kept_touch plan (sym e j + 1) (drop (sym e j) logged)
-skip plan logged a (suc d) none =
+skip : (plan : Plan) (base : ℕ) (logged : List PlannedEntry) (a d : ℕ) → base ≤ a
+    → ((i : ℕ) → a < i → i ≤ a + d → first_touched plan (plan_of base logged i) ≡ None)
+    → kept_touch plan (a + 1) (drop (a - base) logged) ≡ kept_touch plan (a + d + 1) (drop (a + d - base) logged)
+skip plan base logged a zero above none = let e : a + 0 ≡ a = omega arith in λ j. kept_touch plan (sym e j + 1) (drop (sym e j - base) logged)
+skip plan base logged a (suc d) above none =
     let e : a + 1 + d ≡ a + suc d = omega arith in
-    one ∙ skip plan logged (a + 1) d (λ i above upto. none i (omega (arith, above)) (omega (arith, upto)))
-    ∙ (λ j. kept_touch plan (e j + 1) (drop (e j) logged))
+    one ∙ skip plan base logged (a + 1) d (omega (arith, above)) (λ i over upto. none i (omega (arith, over)) (omega (arith, upto)))
+    ∙ (λ j. kept_touch plan (e j + 1) (drop (e j - base) logged))
   where
-    one : kept_touch plan (a + 1) (drop a logged) ≡ kept_touch plan (a + 1 + 1) (drop (a + 1) logged)
-    one = elim (cases_lt a (length logged)) [
+    one : kept_touch plan (a + 1) (drop (a - base) logged) ≡ kept_touch plan (a + 1 + 1) (drop (a + 1 - base) logged)
+    one = elim (cases_lt (a - base) (length logged)) [
       | inl here ↦
-          kept_touch-at plan a logged here
-          ∙ ap (λ o. in_cell (a + 1) o (kept_touch plan (a + 1 + 1) (drop (a + 1) logged))) (none (a + 1) (omega arith) (omega arith))
+          kept_touch-at plan base a logged above here
+          ∙ ap (λ o. in_cell (a + 1) o (kept_touch plan (a + 1 + 1) (drop (a + 1 - base) logged))) (none (a + 1) (omega arith) (omega arith))
       | inr beyond ↦
-          ap (kept_touch plan (a + 1)) (drop_beyond a logged beyond) ∙ sym (ap (kept_touch plan (a + 1 + 1)) (drop_beyond (a + 1) logged (omega (arith, beyond))))
+          ap (kept_touch plan (a + 1)) (drop_beyond (a - base) logged beyond)
+          ∙ sym (ap (kept_touch plan (a + 1 + 1)) (drop_beyond (a + 1 - base) logged (omega (arith, beyond))))
     ]
 
 -- where there is no next one, none touches a cell
-pub no_next : (index : Postings) (logged : List PlannedEntry) (plan : Plan) (a : ℕ) → IsIndexOf logged index → IsNext (may_touch_any index plan.changes.items) a None
-    → kept_touch plan (a + 1) (drop a logged) ≡ None
-no_next index logged plan a indexed none =
+pub no_next : (index : Postings) (base : ℕ) (logged : List PlannedEntry) (plan : Plan) (a : ℕ) → base ≤ a → IsIndexOf base logged index
+    → IsNext (may_touch_any index plan.changes.items) a None → kept_touch plan (a + 1) (drop (a - base) logged) ≡ None
+no_next index base logged plan a above indexed none =
     let d = length logged in
-    skip plan logged a d (λ i above upto. untouched index logged plan i indexed (none i above))
-    ∙ ap (kept_touch plan (a + d + 1)) (drop_beyond (a + d) logged (omega arith))
+    skip plan base logged a d above (λ i over upto. untouched index base logged plan i (omega (arith, above, over)) indexed (none i over))
+    ∙ ap (kept_touch plan (a + d + 1)) (drop_beyond (a + d - base) logged (omega (arith, above)))
 
 -- the next one is looked at, and those before it are passed over
-pub next_one : (index : Postings) (logged : List PlannedEntry) (plan : Plan) (a n : ℕ) → IsIndexOf logged index → IsNext (may_touch_any index plan.changes.items) a (Some n)
-    → kept_touch plan (a + 1) (drop a logged) ≡ in_cell n (first_touched plan (plan_of logged n)) (kept_touch plan (n + 1) (drop n logged))
-next_one index logged plan a n indexed next =
+pub next_one : (index : Postings) (base : ℕ) (logged : List PlannedEntry) (plan : Plan) (a n : ℕ) → base ≤ a → IsIndexOf base logged index
+    → IsNext (may_touch_any index plan.changes.items) a (Some n)
+    → kept_touch plan (a + 1) (drop (a - base) logged) ≡ in_cell n (first_touched plan (plan_of base logged n)) (kept_touch plan (n + 1) (drop (n - base) logged))
+next_one index base logged plan a n above indexed next =
     let d = n - 1 - a in
     let before : a + d ≡ n - 1 = omega (arith, next.0) in
-    let last = within index logged plan.changes.items n indexed next.1 in
+    let last = within index base logged plan.changes.items n (omega (arith, above, next.0)) indexed next.1 in
     let at : n - 1 + 1 ≡ n = omega (arith, next.0) in
-    skip plan logged a d (λ i above upto. untouched index logged plan i indexed (next.2 i above (omega (arith, before, upto, next.0))))
-    ∙ (λ j. kept_touch plan (before j + 1) (drop (before j) logged))
-    ∙ kept_touch-at plan (n - 1) logged (omega (arith, last, next.0))
-    ∙ (λ j. in_cell (at j) (first_touched plan (plan_of logged (at j))) (kept_touch plan (at j + 1) (drop (at j) logged)))
+    skip plan base logged a d above (λ i over upto. untouched index base logged plan i (omega (arith, above, over)) indexed (next.2 i over (omega (arith, before, upto, next.0))))
+    ∙ (λ j. kept_touch plan (before j + 1) (drop (before j - base) logged))
+    ∙ kept_touch-at plan base (n - 1) logged (omega (arith, above, next.0)) (omega (arith, above, last, next.0))
+    ∙ (λ j. in_cell (at j) (first_touched plan (plan_of base logged (at j))) (kept_touch plan (at j + 1) (drop (at j - base) logged)))

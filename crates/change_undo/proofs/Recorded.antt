@@ -1,7 +1,7 @@
 -- The plan that is kept for a number is that of the live change which has the number, in its place.
-use Rattle.std.proofs.Common.{◌≡◌, inl, inr, ℕ, zero, suc, ◌+◌, Bool, true, false, List, [], ◌∷◌, slice_get, Option, Some, None, unwrap_or, refl, sym, ap, subst, ◌∙◌, arith}
-use Rattle.std.specs.FinMap as map
+use Rattle.std.proofs.Common.{◌≡◌, inl, inr, ℕ, zero, suc, ◌+◌, ◌-◌, ◌≤◌, nat_le, cond, Bool, true, false, List, [], ◌∷◌, slice_get, Option, Some, None, unwrap_or, refl, sym, ap, subst, ◌∙◌, arith}
 use Rattle.std.specs.List.{Contains}
+use Rattle.std.proofs.lemmas.Bool.{cases_lt}
 use Rattle.byte_view.specs.Contents.{Contents}
 use Rattle.site_state.specs.States.{State}
 use Rattle.site_change.specs.declared.commands.Command.{Command}
@@ -9,13 +9,13 @@ use Rattle.site_change.specs.declared.plans.Plan.{Plan}
 use Rattle.site_change.specs.Changes.{applied}
 use Rattle.site_change.specs.declared.entries.Entry.{Entry}
 use Rattle.site_change.specs.declared.entries.Entry.TheVariants.{Change, Undo}
-use Rattle.change_undo.specs.Histories.{Past, live_changes, live_from, is_among, recorded, undone}
+use Rattle.change_undo.specs.Histories.{Past, base_state, live_changes, live_from, is_among, recorded, undone}
 use Rattle.change_undo.specs.Kept.{plan_at, plan_of}
 use Rattle.change_undo.specs.Past.{past_of, plans_of}
-use Rattle.change_undo.specs.PlannedEntries.{PlannedEntry, with_change}
+use Rattle.change_undo.specs.PlannedEntries.{PlannedEntry, PlannedLog, with_change}
 use Rattle.change_undo.specs.Plans.{ArePlans, IsHistoryOver, IsPlanned, IsPlanOf, IsRecorded, state_after}
 use Rattle.change_undo.proofs.Live.{live_from-rising}
-use Rattle.change_undo.proofs.Marked.{number_at}
+use Rattle.change_undo.proofs.Marked.{none_up_to, number_at}
 use Rattle.change_undo.proofs.Places.{InPlace, first_or_more, not_below, place-contained, place-ran}
 use Rattle.change_undo.proofs.Planned.{live-first}
 
@@ -90,25 +90,42 @@ placed-plan uploads gone state n (suc i) k (entry ∷ entries) (plan ∷ plans) 
 
 -- what is in place among all changes is what a history records
 recorded-from : (uploads : Contents) (past : Past) (k : ℕ) (plan : Option Plan) → IsHistoryOver uploads past
-    → IsPlaced uploads map.empty (live_changes past.entries) k plan → IsRecorded uploads past.entries k plan
+    → IsPlaced uploads (base_state uploads past.entries) (live_changes past.entries) k plan → IsRecorded uploads past.entries k plan
 recorded-from uploads past k None over none = none
 recorded-from uploads past k (Some plan) over it =
     let row = live_changes past.entries in
     record {
       command = it.command;
       state = it.over;
-      lives = place-contained uploads k it.command map.empty it.over row it.place;
-      place = place-ran uploads 1 k it.command map.empty it.over past.state row (live_from-rising (undone past.entries) 1 past.entries) over.ran it.place;
+      lives = place-contained uploads k it.command (base_state uploads past.entries) it.over row it.place;
+      place = place-ran uploads (past.entries.base + 1) k it.command (base_state uploads past.entries) it.over past.state row
+          (live_from-rising (undone past.entries.entries) (past.entries.base + 1) past.entries.entries) over.ran it.place;
       planned = it.planned;
     }
 
 pub record-over : (past : Past) (k : ℕ) (uploads : Contents) → IsHistoryOver uploads past → IsRecorded uploads past.entries k (recorded past k)
-record-over past zero uploads over = λ command there. omega (arith, not_below 1 zero command (live_changes past.entries) (live_from-rising (undone past.entries) 1 past.entries) there)
-record-over past (suc i) uploads over =
-    let P : Option Plan → Type 0 = IsRecorded uploads past.entries (suc i) in
-    subst P (sym (number_at (at_place past.plans) (suc i) i refl))
-    (recorded-from uploads past (suc i) (at_place past.plans i) over
-    (placed-plan uploads (undone past.entries) map.empty 1 i (suc i) past.entries past.plans (omega arith) over.planned))
+record-over past k uploads over = elim (cases_lt past.entries.base k) [
+  | inl above ↦ one (k - past.entries.base - 1) (omega (arith, above))
+  | inr low ↦ subst P (sym (none_up_to (at_place past.plans) past.entries.base k low)) (λ command there. no_command command low there)
+]
+  where
+    P : Option Plan → Type 0
+    P = IsRecorded uploads past.entries k
+
+    no_command : (command : Command) → k ≤ past.entries.base → Contains (live_changes past.entries) (k, command) → ⊥
+    no_command command low there =
+        omega (
+          arith,
+          low,
+          not_below (past.entries.base + 1) k command (live_changes past.entries)
+              (live_from-rising (undone past.entries.entries) (past.entries.base + 1) past.entries.entries) there,
+        )
+
+    one : (i : ℕ) → k ≡ past.entries.base + suc i → IsRecorded uploads past.entries k (recorded past k)
+    one i at =
+        subst P (sym (number_at (at_place past.plans) past.entries.base k i at))
+        (recorded-from uploads past k (at_place past.plans i) over
+        (placed-plan uploads (undone past.entries.entries) (base_state uploads past.entries) (past.entries.base + 1) i k past.entries.entries past.plans (omega (arith, at)) over.planned))
 
 -- ---- the plan of an entry that is kept with its mark
 
@@ -117,7 +134,5 @@ plans-kept [] i = refl
 plans-kept (l ∷ logged) zero = refl
 plans-kept (l ∷ logged) (suc i) = plans-kept logged i
 
-pub recorded-kept : (limit : ℕ) (logged : List PlannedEntry) (state : State) (k : ℕ) → plan_of logged k ≡ recorded (past_of limit logged state) k
-recorded-kept limit logged state zero = refl
-recorded-kept limit logged state (suc i) =
-    number_at (plan_at logged) (suc i) i refl ∙ plans-kept logged i ∙ sym (number_at (at_place (plans_of logged)) (suc i) i refl)
+pub recorded-kept : (limit : ℕ) (planned : PlannedLog) (state : State) (k : ℕ) → plan_of planned.base planned.logged k ≡ recorded (past_of limit planned state) k
+recorded-kept limit planned state k = ap (λ (o : Option Plan). cond (nat_le k planned.base) None o) (plans-kept planned.logged (k - planned.base - 1))

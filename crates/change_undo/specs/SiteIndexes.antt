@@ -1,5 +1,5 @@
 -- How the entries of each site are found: each entry leads to the one before it of the same site, and a site to its last one.
-use Rattle.std.specs.Prelude.{◌≡◌, ℕ, zero, suc, ◌-◌, ◌<◌, ◌≤◌, ◌==◌, List, [], ◌∷◌, length, reverse, slice_get, unwrap_or, if◌then◌else◌}
+use Rattle.std.specs.Prelude.{◌≡◌, ℕ, zero, suc, ◌+◌, ◌-◌, ◌<◌, ◌≤◌, nat_le, List, [], ◌∷◌, length, reverse, slice_get, unwrap_or, if◌then◌else◌}
 use Rattle.std.specs.FinMap.{find}
 use Rattle.std.specs.Cmp.Lexicographic.{slice_cmp}
 use Rattle.std.specs.List.Sorted.{IsStrictlySortedBy}
@@ -18,27 +18,28 @@ site_cmp = on (λ site. site.0) (slice_cmp nat_cmp)
 abbrev pub last_of : List (SiteName × ℕ) → SiteName → ℕ
 last_of last site = unwrap_or (find site_cmp site last) 0
 
--- the number to which the entry of this number, from 1 on, leads; 0 if it leads to none
-abbrev pub before : List ℕ → ℕ → ℕ
-before earlier n = unwrap_or (slice_get earlier (n - 1)) 0
+-- the number to which the entry of this number, above the base, leads; none above the base if it leads to none
+abbrev pub before : (base : ℕ) → List ℕ → ℕ → ℕ
+before base earlier n = unwrap_or (slice_get earlier (n - base - 1)) 0
 
--- the numbers to which this one leads, itself first, as long as they are above 0, and at most so many
-abbrev pub trail : List ℕ → (most : ℕ) → ℕ → List ℕ
-trail earlier zero n = []
-trail earlier (suc most) n = if n == 0 then [] else n ∷ trail earlier most (before earlier n)
+-- the numbers to which this one leads, itself first, as long as they are above the base, and at most so many
+abbrev pub trail : (base : ℕ) → List ℕ → (most : ℕ) → ℕ → List ℕ
+trail base earlier zero n = []
+trail base earlier (suc most) n = if nat_le n base then [] else n ∷ trail base earlier most (before base earlier n)
 
--- this number leads to these, itself first, each of which is lower than the one before it, and the last one to none
-abbrev pub Leads : List ℕ → ℕ → List ℕ → Type 0
-Leads earlier n [] = n ≡ 0
-Leads earlier n (k ∷ ks) = (n ≡ k) × (0 < k) × (k ≤ length earlier) × (before earlier k < k) × Leads earlier (before earlier k) ks
+-- this number leads to these, itself first, each of which is lower than the one before it, and the last one to none above the base
+abbrev pub Leads : (base : ℕ) → List ℕ → ℕ → List ℕ → Type 0
+Leads base earlier n [] = n ≤ base
+Leads base earlier n (k ∷ ks) =
+    (n ≡ k) × (base < k) × (k ≤ base + length earlier) × (before base earlier k < k) × Leads base earlier (before base earlier k) ks
 
 -- the number leads to some numbers
-pub record LeadsOn (earlier : List ℕ) (n : ℕ) : Type 0 where
+pub record LeadsOn (base : ℕ) (earlier : List ℕ) (n : ℕ) : Type 0 where
   pub numbers : List ℕ
-  pub leads : Leads earlier n numbers
+  pub leads : Leads base earlier n numbers
 
 -- There is a number for each entry, the sites are in their order, and the last entry of each site leads to all of that site, the newest first.
 pub record AreChained (log : Log) (earlier : List ℕ) (last : List (SiteName × ℕ)) : Type 0 where
-  pub lengths : length earlier ≡ length log
+  pub lengths : length earlier ≡ length log.entries
   pub rises : IsStrictlySortedBy site_cmp (keys_of last)
-  pub leads : (site : SiteName) → Leads earlier (last_of last site) (reverse (numbers_of log site))
+  pub leads : (site : SiteName) → Leads log.base earlier (last_of last site) (reverse (numbers_of log site))

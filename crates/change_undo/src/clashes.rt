@@ -1,8 +1,8 @@
 //! The clash of a change: what is in the way of leaving it out.
-ghost use Rattle.std.specs.Prelude.{◌≡◌, ◌+◌, Some, drop, find, option_copied, option_map};
+ghost use Rattle.std.specs.Prelude.{◌≡◌, ◌+◌, ◌-◌, ◌≤◌, Some, drop, find, option_copied, option_map};
 ghost use Rattle.site_change.specs.TouchedCells.{is_touched};
 ghost use Rattle.site_state.specs.Changes.{cells_of};
-ghost use Rattle.std.specs.FinMap as map;
+ghost use Rattle.site_state.specs.States.{State as Cells};
 ghost use Rattle.byte_view.specs.Contents.{Contents};
 ghost use Rattle.change_undo.specs.Clashes.{clash_in};
 ghost use Rattle.change_undo.specs.Kept as spec;
@@ -40,7 +40,7 @@ fn touched_later<'a>(plan: &'a Plan, later: &Plan) -> Option<&'a Cell>
 impl Records {
     /// The first cell that a plan changes and the change with a later number touches, if that change lives.
     fn touched_by<'a>(&self, number: u64, plan: &'a Plan) -> Option<&'a Cell>
-        ensures { option_copied result ≡ spec.first_touched plan.now (plan_of self.now number) }
+        ensures { option_copied result ≡ spec.first_touched plan.now (plan_of self.now.base self.now.logged number) }
     {
         match self.plan(number) {
             Some(later) => touched_later(plan, later),
@@ -51,7 +51,9 @@ impl Records {
     /// The first entry after a change that touches a cell which the change's plan changes, with the first such cell. Each number that the
     /// index gives is tested by its change's plan, since keys may collide.
     fn kept_touch<'a>(&self, change: u64, plan: &'a Plan) -> Option<(u64, &'a Cell)>
-        ensures { option_map (λ found. (found.0, found.1.now)) result ≡ spec.kept_touch plan.now (change + 1) (drop change self.now) }
+        requires some { self.now.base ≤ change }
+        ensures { option_map (λ found. (found.0, found.1.now)) result
+            ≡ spec.kept_touch plan.now (change + 1) (drop (change - self.now.base) self.now.logged) }
     {
         let changes = plan.changes.as_slice();
         let mut after = change;
@@ -66,8 +68,8 @@ impl Records {
 
     /// The first later change that lives and touches a cell which this change changed, with the first such cell.
     pub(crate) fn clash(&self, change: u64) -> Option<(u64, &Cell)>
-        ensures { (uploads : Contents) → ArePlanned uploads map.empty 1 self.now
-            → option_map (λ found. (found.0, found.1.now)) result ≡ clash_in uploads change map.empty (marked_live 1 self.now) }
+        ensures { (uploads : Contents) (start : Cells) → ArePlanned uploads start (self.now.base + 1) self.now.logged
+            → option_map (λ found. (found.0, found.1.now)) result ≡ clash_in uploads change start (marked_live (self.now.base + 1) self.now.logged) }
     {
         match self.plan(change) {
             Some(plan) => self.kept_touch(change, plan),

@@ -1,5 +1,5 @@
 //! Histories: changes are committed at their end, and undone by an entry of their own.
-ghost use Rattle.std.specs.Prelude.{◌≡◌, ◌≤◌, [], nat_le, reverse, Some, IfOk, OnOk, OnErr, option_copied, option_map};
+ghost use Rattle.std.specs.Prelude.{◌≡◌, ◌≤◌, [], nat_le, reverse, Some, IfErr, IfOk, OnOk, OnErr, option_copied, option_map};
 ghost use Rattle.std.specs.FinMap as map;
 ghost use Rattle.byte_view.specs.Contents.{Contents};
 ghost use Rattle.site_change.specs.Refusals.{IsRefusedBy};
@@ -8,16 +8,19 @@ ghost use Rattle.site_change.specs.Uploaded.{AreUploaded};
 ghost use Rattle.site_change.specs.declared.entries.Entry.TheVariants as entry;
 ghost use Rattle.change_undo.specs.Clashes;
 ghost use Rattle.change_undo.specs.Effects.{UndoesChange};
+ghost use Rattle.change_undo.specs.BaseFaults.{IsBaseFault};
 ghost use Rattle.change_undo.specs.Histories;
+ghost use Rattle.change_undo.specs.Histories.{base_state};
 ghost use Rattle.change_log.specs.Logs;
-ghost use Rattle.change_log.specs.Logs.{empty_log, last_number, next_number, with_entry};
+ghost use Rattle.change_log.specs.Logs.{empty_log, last_number, next_number, with_entry, with_only};
 ghost use Rattle.change_undo.specs.Plans.{IsHistoryOver, IsRecorded};
 ghost use Rattle.change_undo.specs.SiteEntries.{numbers_of};
 
+use crate::base_faults::BaseFault;
 use crate::records::Records;
 use crate::site_entries::SiteEntries;
 use byte_view::Uploads;
-use change_log::Log;
+use change_log::{Log, may_be_base, state_of};
 use host_names::{Cell, SiteName};
 use site_change::{ChangeError, ChangeRefusal, Command, Entry, Plan, decide, uploads_are_digested};
 use site_state::State;
@@ -30,9 +33,9 @@ pub const GREATEST_LIMIT: u64 = 1_000_000;
 // Clauses and documents have this number: whoever changes it changes them.
 const _: () = prove!(GREATEST_LIMIT == 1_000_000);
 
-/// The entries so far, and the state that the changes among them give that no undo names: the changes that live. Contracts see the limit,
-/// the entries, what each live change changed and touched, and the state. The state is always what the live changes give when they run from
-/// nothing, in the order of their numbers. Copies share the entries and what is kept of them.
+/// The log so far, and the state that the changes in it give that no undo names: the changes that live. Contracts see the limit, the log, what
+/// each live change changed and touched, and the state. The state is always what the live changes give when they run from the state of the
+/// log's base, in the order of their numbers; a log that has all its entries begins with nothing. Copies share the log and what is kept of it.
 ///
 /// A history keeps no uploads. Its contracts speak of any uploads over which it is a history (`IsHistoryOver`), and a commit asks for such;
 /// it is then a history over all that have more, too (`histories_outlast_uploads`).
@@ -45,7 +48,7 @@ pub struct History {
 
 impl Model for History {
     ghost use Rattle.std.specs.Coded.{coded_list, coded_option};
-    ghost use Rattle.site_change.specs.contracts.entries.Entry as entry;
+    ghost use Rattle.change_log.specs.contracts.logs.Log as log;
     ghost use Rattle.site_change.specs.contracts.plans.Plan as plan;
     ghost use Rattle.site_state.specs.contracts.states.State as states;
     ghost use Rattle.change_undo.specs.Histories.{Past};
@@ -53,7 +56,7 @@ impl Model for History {
 
     ghost Value = { Past };
 
-    ghost coded = { coded_past (coded_list entry.the_row.coded) (coded_list (coded_option plan.the_row.coded)) states.the_row.coded };
+    ghost coded = { coded_past log.the_row.coded (coded_list (coded_option plan.the_row.coded)) states.the_row.coded };
 
     ghost view = { λ h. past_of h.limit h.records h.state };
 
@@ -69,12 +72,41 @@ impl History {
     {
         History {
             limit,
-            records: Records::new(alloc),
+            records: Records::new(Log::new(alloc)),
             state: State::new(alloc),
         }
     }
 
-    /// The state: what the live changes give when they run from nothing. `deploys_were_opened_by_their_entries` says what that tells of its
+    /// A history of the base of this log, without its entries. It asks what `new` asks, and that the base has no number above the limit. It is
+    /// refused exactly where the base may not be one over these uploads (`IsBase`).
+    pub fn over<U: Uploads>(limit: u64, log: &Log, uploads: &U) -> Result<History, BaseFault>
+        requires some { 1 ≤ limit }
+        requires bounded { limit ≤ 1000000 }
+        requires within { log.now.base ≤ limit }
+        ensures over { IfOk result (λ history. IsHistoryOver (U.contents uploads.now) history) }
+        ensures fault { IfErr result (λ fault. IsBaseFault (U.contents uploads.now) log.now fault) }
+        ensures made { IfOk result (λ history. history ≡ record {
+          limit = limit;
+          entries = with_only log.now [];
+          plans = [];
+          state = base_state (U.contents uploads.now) log.now;
+        }) }
+    {
+        let alloc = log.allocator();
+        let base = log.base();
+        if !may_be_base(alloc, uploads, base, log.base_state())? {
+            return Err(BaseFault::NotLegal(base));
+        }
+        let state = state_of(alloc, uploads, log.base_state())?;
+        let records = Records::new(log.without_entries()?);
+        Ok(History {
+            limit,
+            records,
+            state,
+        })
+    }
+
+    /// The state: what the live changes give when they run from that of the base. `deploys_were_opened_by_their_entries` says what that tells of its
     /// deploys.
     pub fn state(&self) -> &State
         ensures value { result.now ≡ self.now.state }
@@ -83,7 +115,7 @@ impl History {
         &self.state
     }
 
-    /// The number of entries, which is at most the limit.
+    /// The number of the last entry, which is at most the limit; that of the base if there is none.
     pub fn len(&self) -> u64
         ensures number { result ≡ last_number self.now.entries }
         ensures room { last_number self.now.entries ≤ self.now.limit }
@@ -93,28 +125,28 @@ impl History {
         self.records.len()
     }
 
-    /// Whether it has as many entries as its limit allows.
+    /// Whether its last entry has the greatest number that its limit allows.
     pub fn is_full(&self) -> bool
         ensures { result ≡ nat_le self.now.limit (last_number self.now.entries) }
     {
         self.limit <= self.records.len()
     }
 
-    /// The entries. Takes no memory.
+    /// The log. Takes no memory.
     pub fn log(&self) -> &Log
         ensures { result.now ≡ self.now.entries }
     {
         self.records.log()
     }
 
-    /// The entry with this number, from 1 on.
+    /// The entry with this number; none up to the base.
     pub fn entry(&self, number: u64) -> Option<&Entry>
         ensures { option_copied result ≡ Histories.entry_at self.now.entries number }
     {
         self.log().entry(number)
     }
 
-    /// The entry with this number, from 1 on, and whether an undo names it.
+    /// The entry with this number, and whether an undo names it; none up to the base.
     pub fn marked_entry(&self, number: u64) -> Option<(&Entry, bool)>
         ensures { option_map (λ found. (found.0.now, found.1)) result
             ≡ Histories.marked_entry self.now.entries number }
@@ -190,8 +222,8 @@ impl History {
     /// that of `clash`, that of `State::set_cells` with these cells, one write of the index with the cells that the change touched, and a
     /// copy of the marks and of the index.
     ///
-    /// What is written back is in the change's plan. It is what the other live changes give from nothing, since no later one reads or
-    /// writes those cells.
+    /// What is written back is in the change's plan. It is what the other live changes give from the state of the base, since no later one reads
+    /// or writes those cells.
     pub fn undo(&mut self, site: &SiteName, change: u64) -> Result<u64, ChangeError>
         ensures refused { (uploads : Contents) → IsHistoryOver uploads self.old
             → Histories.IsUndoRefusedBy (Histories.undo_refusal uploads self.old.limit self.old.entries site.now change) result }

@@ -17,7 +17,9 @@ use std::marker::Model;
 #[derive(Drop)]
 pub struct SiteEntries<'a> {
     earlier: &'a SharedList<u64>,
-    /// The number that comes next; 0 if none is left.
+    /// The number after which the log begins.
+    base: u64,
+    /// The number that comes next; none above the base if none is left.
     next: u64,
 }
 
@@ -27,17 +29,17 @@ impl<'a> Model for SiteEntries<'a> {
 
     ghost Value = { List ℕ };
 
-    ghost view = { λ e. trail e.earlier.now.items e.next e.next };
+    ghost view = { λ e. trail e.base e.earlier.now.items e.next e.next };
 
-    ghost invariant = { λ e. LeadsOn e.earlier.now.items e.next };
+    ghost invariant = { λ e. LeadsOn e.base e.earlier.now.items e.next };
 }
 
-/// The number to which the entry of this number, from 1 on, leads; 0 if it leads to none.
-fn number_before(earlier: &SharedList<u64>, number: u64) -> u64
-    requires { 0 < number }
-    ensures { result ≡ spec.before earlier.now.items number }
+/// The number to which the entry of this number, above the base, leads; none above the base if it leads to none.
+fn number_before(earlier: &SharedList<u64>, base: u64, number: u64) -> u64
+    requires { base < number }
+    ensures { result ≡ spec.before base earlier.now.items number }
 {
-    match earlier.get(number as usize - 1) {
+    match earlier.get((number - base - 1) as usize) {
         Some(before) => *before,
         None => 0,
     }
@@ -52,10 +54,10 @@ impl<'a> Iterator for SiteEntries<'a> {
 
     fn next(&mut self) -> Option<u64> {
         let number = self.next;
-        if number == 0 {
+        if number <= self.base {
             return None;
         }
-        self.next = number_before(self.earlier, number);
+        self.next = number_before(self.earlier, self.base, number);
         Some(number)
     }
 }
@@ -76,7 +78,7 @@ impl<'a> Probe<SiteName> for Sought<'a> {
 /// bytes, and what is kept of it never changes. Copies share it.
 #[derive(Drop)]
 pub(crate) struct SiteIndex {
-    /// Of each entry the number of the one before it of the same site; 0 if there is none.
+    /// Of each entry above the base the number of the one before it of the same site; none above the base if there is none.
     earlier: SharedList<u64>,
     /// Of each site that has entries the number of the last one.
     last: SharedMap<SiteName, u64>,
@@ -114,12 +116,13 @@ impl SiteIndex {
     }
 
     /// The numbers of the entries of a site, the newest first. The work is a look-up of the site, and one in a list for each number.
-    pub(crate) fn entries_of(&self, site: &SiteName) -> SiteEntries<'_>
-        requires { LeadsOn self.now.earlier.items (spec.last_of self.now.last site.now) }
-        ensures { result ≡ spec.trail self.now.earlier.items (spec.last_of self.now.last site.now) (spec.last_of self.now.last site.now) }
+    pub(crate) fn entries_of(&self, base: u64, site: &SiteName) -> SiteEntries<'_>
+        requires { LeadsOn base self.now.earlier.items (spec.last_of self.now.last site.now) }
+        ensures { result ≡ spec.trail base self.now.earlier.items (spec.last_of self.now.last site.now) (spec.last_of self.now.last site.now) }
     {
         SiteEntries {
             earlier: &self.earlier,
+            base,
             next: self.last_number(site),
         }
     }

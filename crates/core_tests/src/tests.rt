@@ -1,4 +1,5 @@
 //! One file of tests for each kind of thing, and what they share.
+mod bases;
 mod boundaries;
 mod caches;
 mod cells;

@@ -9,7 +9,7 @@ ghost use Rattle.host_answers.specs.Asking.{asking_takes};
 ghost use Rattle.host_api.specs.declared.refusals.Refusal.TheVariants as reason;
 
 use blob_store::{AbsenceReceipt, PutReceipt, ShelfAccess};
-use byte_view::BlobInfo;
+use change_log::Log;
 use host_answers::asked_for;
 use host_api::{Ask, Items, Refusal};
 use host_disk::Disk;
@@ -19,8 +19,8 @@ use left_right::Absorb;
 use seen_lists::ListName;
 use shared_desk::Desk;
 use shared_house::{DeskAccess, LogFront, Taken};
-use site_change::{Command, Entry};
-use site_desk::{DeskError, DeskName, Notice, Seat, SeenFiles, UploadError};
+use site_change::Command;
+use site_desk::{DeskError, DeskName, KnownFiles, Notice, Seat, SeenFiles, UploadError};
 use site_state::Listing;
 use std::alloc::{AllocError, Global};
 use std::marker::PhantomData;
@@ -57,10 +57,10 @@ fn asked_apart<W: Threads>(rt: &W, alloc: Global, head: &Head, body: &[u8]) -> R
 pub struct SeatedDesk<
     'a,
     J: DeskName,
-    K: ListName<BlobInfo>,
+    K: ListName<KnownFiles>,
     D: Disk,
     S,
-    T: Absorb<Notice<J>, State = [Entry; 0]> + Drop,
+    T: Absorb<Notice<J>, State = Log> + Drop,
     R: Wait + Drop,
     W,
     A,
@@ -80,10 +80,10 @@ pub struct SeatedDesk<
 impl<
     'a,
     J: DeskName,
-    K: ListName<BlobInfo>,
+    K: ListName<KnownFiles>,
     D: Disk,
     S,
-    T: Absorb<Notice<J>, State = [Entry; 0]> + Drop,
+    T: Absorb<Notice<J>, State = Log> + Drop,
     R: Wait + Drop,
     W,
     A,
@@ -113,10 +113,10 @@ impl<
 
 impl<
     J: DeskName,
-    K: ListName<BlobInfo>,
+    K: ListName<KnownFiles>,
     D: Disk,
     S,
-    T: Absorb<Notice<J>, State = [Entry; 0]> + Drop,
+    T: Absorb<Notice<J>, State = Log> + Drop,
     R: Wait + Drop,
     W: Wait,
     A,
@@ -161,10 +161,10 @@ impl<
 
 impl<
     J: DeskName,
-    K: ListName<BlobInfo>,
+    K: ListName<KnownFiles>,
     D: Disk,
     S,
-    T: Absorb<Notice<J>, State = [Entry; 0]> + Drop,
+    T: Absorb<Notice<J>, State = Log> + Drop,
     R: Wait + Drop,
     W: Wait + Threads,
     A: ShelfAccess<S, U, N>,

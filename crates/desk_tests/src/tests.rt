@@ -1,3 +1,4 @@
-//! One file of tests for lists, and one for what is shown of them.
+//! One file of tests for lists, and one for what is shown of them; and what both push.
 mod lists;
+mod numbers;
 mod visitors;

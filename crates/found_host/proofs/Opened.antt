@@ -1,8 +1,8 @@
 -- What the parts of an opening say of it.
-use Rattle.std.proofs.Common.{◌≡◌, ◌⊎◌, inl, inr, List, IsTrue, ℕ, false, refl, subst, sym}
+use Rattle.std.proofs.Common.{◌≡◌, ◌⊎◌, inl, inr, IsTrue, ℕ, false, refl, subst, sym}
 use Rattle.byte_view.specs.Contents.{Contents}
 use Rattle.blob_store.specs.Calls.{Call}
-use Rattle.site_change.specs.declared.entries.Entry.{Entry}
+use Rattle.change_log.specs.Logs.{IsWhole, Log}
 use Rattle.change_journal.specs.Held.{Keeps}
 use Rattle.change_journal.specs.Faults.{StopsEither}
 use Rattle.change_journal.specs.Texts.{AllStored, IsText, texts}
@@ -18,24 +18,25 @@ use Rattle.found_host.specs.declared.faults.OpenFault.{OpenFault}
 use Rattle.found_host.specs.declared.faults.OpenFault.TheVariants as fault
 
 -- the entries that were found are the journal's
-pub has_journal : {D : Type 0} (disk : Ghosts D) (first second : D) (journal : Keeps D) (log : List Entry) → (journal.entries ≡ log) × (journal.broken ≡ false)
-    → (IsTrue disk.is_modelled → FoundBoth (texts log) (disk.seen first) (disk.seen second)) → (IsTrue disk.is_modelled → AllStored (disk.may_leave journal.first) (disk.may_leave journal.second) log)
+pub has_journal : {D : Type 0} (disk : Ghosts D) (first second : D) (journal : Keeps D) (log : Log) → (journal.entries ≡ log) × (journal.broken ≡ false) → IsWhole log
+    → (IsTrue disk.is_modelled → FoundBoth (texts log.entries) (disk.seen first) (disk.seen second)) → (IsTrue disk.is_modelled → AllStored (disk.may_leave journal.first) (disk.may_leave journal.second) log.entries)
     → (disk.faults journal.first ≡ disk.faults first) × (disk.faults journal.second ≡ disk.faults second) → HasJournal disk first second journal
-has_journal disk first second journal log are found stored no_fault = record {
+has_journal disk first second journal log are all found stored no_fault = record {
   whole = are.1;
-  found = subst (λ entries. IsTrue disk.is_modelled → FoundBoth (texts entries) (disk.seen first) (disk.seen second)) (sym are.0) found;
-  stored = subst (λ entries. IsTrue disk.is_modelled → AllStored (disk.may_leave journal.first) (disk.may_leave journal.second) entries) (sym are.0) stored;
+  all = subst IsWhole (sym are.0) all;
+  found = subst (λ (l : Log). IsTrue disk.is_modelled → FoundBoth (texts l.entries) (disk.seen first) (disk.seen second)) (sym are.0) found;
+  stored = subst (λ (l : Log). IsTrue disk.is_modelled → AllStored (disk.may_leave journal.first) (disk.may_leave journal.second) l.entries) (sym are.0) stored;
   no_fault = no_fault;
 }
 
 -- the files are there, and the entries aren't accepted in turn
-pub not_replayed : {S : Type 0} (did : S → Call → S → Type 0) (old : S) (limit : ℕ) (entries : List Entry) (known : Contents) (why : ReplayFault) (new : S)
+pub not_replayed : {S : Type 0} (did : S → Call → S → Type 0) (old : S) (limit : ℕ) (entries : Log) (known : Contents) (why : ReplayFault) (new : S)
     → HasFiles did old entries known new → StopsAt known limit entries why → IsHostFault did old limit entries (of_replay why) new
 not_replayed did old limit entries known (replay_fault.NotLegal n) new files stops = (known, files, stops)
 not_replayed did old limit entries known replay_fault.OutOfMemory new files stops = inr (known, files)
 
 -- the files aren't there
-pub not_there : {S : Type 0} (did : S → Call → S → Type 0) (old : S) (limit : ℕ) (entries : List Entry) (why : OpenFault) (new : S)
+pub not_there : {S : Type 0} (did : S → Call → S → Type 0) (old : S) (limit : ℕ) (entries : Log) (why : OpenFault) (new : S)
     → IsFilesFault did old entries why new → IsHostFault did old limit entries why new
 not_there did old limit entries fault.BadHeader new why = why
 not_there did old limit entries (fault.BadRecord n) new why = why

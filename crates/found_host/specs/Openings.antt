@@ -6,7 +6,7 @@ use Rattle.blob_store.specs.Openings as blobs
 use Rattle.blob_store.specs.declared.openings.OpenFault as of_files
 use Rattle.blob_store.specs.declared.openings.OpenFault.TheVariants as blobs_fault
 use Rattle.blob_store.specs.declared.openings.Wanted.{Wanted}
-use Rattle.change_log.specs.Logs.{Log}
+use Rattle.change_log.specs.Logs.{IsWhole, Log}
 use Rattle.change_journal.specs.Held.{Keeps}
 use Rattle.change_journal.specs.Faults.{StopsEither}
 use Rattle.change_journal.specs.Texts.{AllStored, IsText, texts}
@@ -24,11 +24,12 @@ use Rattle.found_host.specs.Remains.{Remains}
 
 -- ---- what is opened
 
--- two slots have an open journal: of modelled disks, its entries are those that they held, and whatever a crash leaves holds them
+-- two slots have an open journal, whose log has no base: of modelled disks, its entries are those that they held, and whatever a crash leaves holds them
 pub record HasJournal {D : Type 0} (disk : Ghosts D) (first second : D) (journal : Keeps D) : Type 0 where
   pub whole : journal.broken ≡ false
-  pub found : IsTrue disk.is_modelled → FoundBoth (texts journal.entries) (disk.seen first) (disk.seen second)
-  pub stored : IsTrue disk.is_modelled → AllStored (disk.may_leave journal.first) (disk.may_leave journal.second) journal.entries
+  pub all : IsWhole journal.entries
+  pub found : IsTrue disk.is_modelled → FoundBoth (texts journal.entries.entries) (disk.seen first) (disk.seen second)
+  pub stored : IsTrue disk.is_modelled → AllStored (disk.may_leave journal.first) (disk.may_leave journal.second) journal.entries.entries
   pub no_fault : (disk.faults journal.first ≡ disk.faults first) × (disk.faults journal.second ≡ disk.faults second)
 
 -- the journal of two slots was opened, and their disks are handed back

@@ -18,14 +18,13 @@ pub struct Found<D: Disk, S> {
 }
 
 impl<D: Disk, S> Model for Found<D, S> {
-    ghost use Rattle.std.specs.Coded.{coded_list};
-    ghost use Rattle.site_change.specs.contracts.entries.Entry as entry;
+    ghost use Rattle.change_log.specs.contracts.logs.Log as log;
     ghost use Rattle.blob_store.specs.contracts.blob_indexes.BlobIndex as known;
     ghost use Rattle.found_host.specs.Remains.{IsFound, Remains, coded_remains};
 
     ghost Value = { Remains D S };
 
-    ghost coded = { coded_remains (coded_list entry.the_row.coded) known.the_row.coded D.code S.code };
+    ghost coded = { coded_remains log.the_row.coded known.the_row.coded D.code S.code };
 
     ghost view = { λ f. record { limit = f.history.limit; journal = f.journal; store = f.blobs } };
 

@@ -3,7 +3,6 @@ ghost use Rattle.std.specs.Prelude.{◌≡◌, ◌⊎◌, ◌<◌, ◌≤◌, �
 ghost use Rattle.record_file.specs.Failures.{MayFailReading};
 ghost use Rattle.record_file.specs.Pairs.{AreForeign, AreRefused, Order, ReadsRecord};
 ghost use Rattle.change_journal.specs.Texts.{HoldsEntries, IsText, LeavesNext, MayHoldNext};
-ghost use Rattle.change_log.specs.Logs as logs;
 ghost use Rattle.site_change.specs.declared.entries.Entry.{Entry as Line};
 ghost use Rattle.host_opening.specs.Replays.{IsReplayed};
 ghost use Rattle.found_host.specs.Openings as spec;
@@ -92,10 +91,10 @@ impl<D: Disk, S: Shelf> Found<D, S> {
         ensures opened { IfOk result (λ found. IsOpened D.Disk S.did first second shelf limit found) }
         ensures fault { IfErr result (λ stop.
             IsOpenFault D.Disk S.did first second shelf limit stop.fault stop.first stop.second stop.shelf) }
-        ensures kept { IsTrue D.is_modelled → (had : logs.Log) → logs.last_number had ≤ 1000000
+        ensures kept { IsTrue D.is_modelled → (had : List Line) → length had ≤ 1000000
             → HoldsEntries had (D.seen first) (D.seen second)
-            → MatchResult result (λ found. found.journal.entries ≡ had) (λ stop. IsNoRecordFault stop.fault) }
-        ensures any_moment { IsTrue D.is_modelled → (order : Order) (had : logs.Log) (next : Line)
+            → MatchResult result (λ found. found.journal.entries.entries ≡ had) (λ stop. IsNoRecordFault stop.fault) }
+        ensures any_moment { IsTrue D.is_modelled → (order : Order) (had : List Line) (next : Line)
             → MayHoldNext order had next (D.may_leave first) (D.may_leave second) → MatchResult result (λ found.
             LeavesNext D.moment D.left_since order had next first second found.journal.first found.journal.second)
             (λ stop. LeavesNext D.moment D.left_since order had next first second stop.first stop.second) }

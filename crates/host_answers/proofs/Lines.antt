@@ -1,8 +1,7 @@
 -- The lines of the last entries of a site, found from the newest on.
-use Rattle.std.proofs.Common.{◌≡◌, ◌⊎◌, inl, inr, ℕ, zero, suc, ◌+◌, ◌-◌, ◌<◌, ◌≤◌, ◌==◌, Bool, List, [], ◌∷◌, ◌++◌, append_assoc, length, map, filter, take, drop, reverse, slice_get, true, false, cond, Option, Some, None, refl, sym, ap, subst, ◌∙◌, arith}
+use Rattle.std.proofs.Common.{◌≡◌, ◌⊎◌, inl, inr, ℕ, zero, suc, ◌+◌, ◌-◌, ◌<◌, ◌≤◌, Bool, List, [], ◌∷◌, ◌++◌, append_assoc, length, map, filter, take, drop, reverse, slice_get, true, false, cond, Option, Some, None, refl, sym, ap, subst, ◌∙◌, arith}
 use Rattle.std.specs.Prelude.{option_and_then}
 use Rattle.std.specs.List.{AllByRecursion, cons_option, enumerate_from, filter_map}
-use Rattle.std.proofs.lemmas.Bool.{eqb-true}
 use Rattle.std.proofs.Math.Seq.{drop-append_seam}
 use Rattle.std.proofs.lemmas.List.{append-nil, take_all, take_at, take-append-drop, length-append, length-reverse, length-take-le, reverse-append, reverse-reverse}
 use Rattle.std.proofs.lemmas.List.Elements.{filter_map-append}
@@ -10,6 +9,7 @@ use Rattle.host_names.specs.declared.names.SiteName.{SiteName}
 use Rattle.site_change.specs.declared.entries.Entry.{Entry}
 use Rattle.site_change.specs.Entries.{site_of_entry}
 use Rattle.change_undo.specs.Histories.{entry_at, same_site, undone}
+use Rattle.change_log.proofs.Longer.{above}
 use Rattle.change_log.specs.Logs.{Log}
 use Rattle.change_undo.specs.SiteEntries.{numbers_of}
 use Rattle.host_api.specs.declared.change_lines.ChangeLine.{ChangeLine}
@@ -68,26 +68,23 @@ slice_get-next [] e entries (suc i) at = absurd (omega (arith, at))
 slice_get-next (x ∷ front) e entries zero at = absurd (omega (arith, at))
 slice_get-next (x ∷ front) e entries (suc i) at = slice_get-next front e entries i (omega (arith, at))
 
-nonzero : (k : ℕ) → 0 < k → (k == 0) ≡ false
-nonzero k h = elim (k == 0) as (λ t. (k == 0) ≡ t → t ≡ false) [ true ↦ λ e. absurd (omega (arith, eqb-true k 0 e, h)) | false ↦ λ e. refl ] refl
-
-entries_from : (log front entries : List Entry) (n : ℕ) → log ≡ front ++ entries → n ≡ length front + 1 → AreEntriesOf log (enumerate_from n entries)
+entries_from : (log : Log) (front entries : List Entry) (n : ℕ) → log.entries ≡ front ++ entries → n ≡ log.base + length front + 1 → AreEntriesOf log (enumerate_from n entries)
 unfolding AreEntriesOf
 entries_from log front [] n parts next = tt
 entries_from log front (e ∷ entries) n parts next =
     let long = length-append front (e ∷ []) in (
-      ap (λ t. cond t None (slice_get log (n - 1))) (nonzero n (omega (arith, next)))
-          ∙ ap (λ (es : List Entry). slice_get es (n - 1)) parts ∙ slice_get-next front e entries (n - 1) (omega (arith, next)),
+      ap (λ t. cond t None (slice_get log.entries (n - log.base - 1))) (above n log.base (omega (arith, next)))
+          ∙ ap (λ (es : List Entry). slice_get es (n - log.base - 1)) parts ∙ slice_get-next front e entries (n - log.base - 1) (omega (arith, next)),
       entries_from log (front ++ e ∷ []) entries (n + 1) (parts ∙ sym (append_assoc front (e ∷ []) entries)) (omega (arith, next, long)),
     )
 
 -- each number of an entry of the site has a line, and these are all
 lines-of : (log : Log) (site : SiteName) (entries : List (ℕ × Entry)) → AreEntriesOf log entries
-    → filter_map (line_at log site) (map (λ e. e.0) (filter (λ e. same_site (site_of_entry e.1) site) entries)) ≡ filter_map (line_in site (undone log)) entries
+    → filter_map (line_at log site) (map (λ e. e.0) (filter (λ e. same_site (site_of_entry e.1) site) entries)) ≡ filter_map (line_in site (undone log.entries)) entries
 unfolding AreEntriesOf
 lines-of log site [] are = refl
 lines-of log site (e ∷ entries) are =
-    let f = line_in site (undone log) in
+    let f = line_in site (undone log.entries) in
     let test : ℕ × Entry → Bool = λ e. same_site (site_of_entry e.1) site in
     let rest = filter test entries in
     elim (test e) as (λ b. test e ≡ b → filter_map (line_at log site) (map (λ p. p.0) (cond b (e ∷ rest) rest)) ≡ cons_option (f e) (filter_map f entries)) [
@@ -96,7 +93,7 @@ lines-of log site (e ∷ entries) are =
           ∙ ap (cons_option (f e)) (lines-of log site entries are.1)
       | false ↦ λ other.
           lines-of log site entries are.1
-          ∙ sym (ap (λ b. cons_option (cond b (Some (line_of (undone log) e.0 e.1)) None) (filter_map f entries)) other)
+          ∙ sym (ap (λ b. cons_option (cond b (Some (line_of (undone log.entries) e.0 e.1)) None) (filter_map f entries)) other)
     ] refl
 
 -- ---- the newest first
@@ -113,7 +110,7 @@ filter_map-reverse h (x ∷ xs) =
 
 newest_lines : (log : Log) (site : SiteName) → filter_map (line_at log site) (reverse (numbers_of log site)) ≡ reverse (lines_of log site)
 newest_lines log site =
-    filter_map-reverse (line_at log site) (numbers_of log site) ∙ ap reverse (lines-of log site (enumerate_from 1 log) (entries_from log [] log 1 refl refl))
+    filter_map-reverse (line_at log site) (numbers_of log site) ∙ ap reverse (lines-of log site (enumerate_from (log.base + 1) log.entries) (entries_from log [] log.entries (log.base + 1) refl (omega arith)))
 
 -- ---- the loop
 

@@ -22,14 +22,14 @@ line_in site gone e = if same_site (site_of_entry e.1) site then Some (line_of g
 
 -- the lines of a site, the oldest first
 abbrev pub lines_of : Log → SiteName → List ChangeLine
-lines_of entries site = filter_map (line_in site (undone entries)) (numbered entries)
+lines_of log site = filter_map (line_in site (undone log.entries)) (numbered log)
 
 -- the last 1,000 lines of a site, the oldest first
 abbrev pub shown_lines : Log → SiteName → List ChangeLine
-shown_lines entries site = let lines = lines_of entries site in drop (length lines - 1000) lines
+shown_lines log site = let lines = lines_of log site in drop (length lines - 1000) lines
 
 -- ---- what private functions say
 
 -- the line of the entry of a number, if it is of the site
 abbrev pub line_at : Log → SiteName → ℕ → Option ChangeLine
-line_at entries site n = option_and_then (λ (e : Entry). line_in site (undone entries) (n, e)) (entry_at entries n)
+line_at log site n = option_and_then (λ (e : Entry). line_in site (undone log.entries) (n, e)) (entry_at log n)

@@ -10,15 +10,14 @@ use crate::showing::HostHouses;
 use crate::task_lists::Task;
 use crate::tasks::{HostShared, Means, work_on};
 use blob_store::{AbsenceReceipt, PutReceipt, Shelf, ShelfAccess};
-use byte_view::BlobInfo;
+use change_log::Log;
 use host_disk::Disk;
 use http_wire::Sink;
 use left_right::Absorb;
 use node_process::{Process, Start, Surroundings};
 use seen_lists::ListName;
 use shared_desk::Desk;
-use site_change::Entry;
-use site_desk::{DeskName, Notice};
+use site_desk::{DeskName, KnownFiles, Notice};
 use std::alloc::Global;
 use std::sync::Mutex;
 
@@ -26,10 +25,10 @@ use std::sync::Mutex;
 fn serve_nodes<
     'a,
     J: DeskName + Send + Sync,
-    K: ListName<BlobInfo> + Send + Sync,
+    K: ListName<KnownFiles> + Send + Sync,
     D: Disk + Send,
     S: Shelf + Send,
-    T: Absorb<Notice<J>, State = [Entry; 0]> + Drop + Send + Sync,
+    T: Absorb<Notice<J>, State = Log> + Drop + Send + Sync,
     R: Serving,
     Q: ShelfAccess<S, U, N> + Send + Sync,
     U: PutReceipt + Drop + Send + Sync,
@@ -74,10 +73,10 @@ fn workers_in<J: DeskName>(tasks: &[Task<J>]) -> u64 {
 fn serve_places<
     'a,
     J: DeskName + Send + Sync,
-    K: ListName<BlobInfo> + Send + Sync,
+    K: ListName<KnownFiles> + Send + Sync,
     D: Disk + Send,
     S: Shelf + Send,
-    T: Absorb<Notice<J>, State = [Entry; 0]> + Drop + Send + Sync,
+    T: Absorb<Notice<J>, State = Log> + Drop + Send + Sync,
     R: Serving,
     Q: ShelfAccess<S, U, N> + Send + Sync,
     U: PutReceipt + Drop + Send + Sync,
@@ -111,10 +110,10 @@ fn serve_places<
 /// Serves at these places, with a group of nodes that know each other so.
 fn serve_group<
     J: DeskName + Send + Sync,
-    K: ListName<BlobInfo> + Send + Sync,
+    K: ListName<KnownFiles> + Send + Sync,
     D: Disk + Send,
     S: Shelf + Send,
-    T: Absorb<Notice<J>, State = [Entry; 0]> + Drop + Send + Sync,
+    T: Absorb<Notice<J>, State = Log> + Drop + Send + Sync,
     R: Serving,
     Q: ShelfAccess<S, U, N> + Send + Sync,
     U: PutReceipt + Drop + Send + Sync,
@@ -147,10 +146,10 @@ fn serve_group<
 /// Serves from a desk, at these posts.
 pub(crate) fn serve_desk<
     J: DeskName + Send + Sync,
-    K: ListName<BlobInfo> + Send + Sync,
+    K: ListName<KnownFiles> + Send + Sync,
     D: Disk + Send,
     S: Shelf + Send,
-    T: Absorb<Notice<J>, State = [Entry; 0]> + Drop + Send + Sync,
+    T: Absorb<Notice<J>, State = Log> + Drop + Send + Sync,
     R: Serving,
     Q: ShelfAccess<S, U, N> + Send + Sync,
     U: PutReceipt + Drop + Send + Sync,

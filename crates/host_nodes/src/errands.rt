@@ -1,11 +1,10 @@
 //! What the threads do that may wait.
 use crate::groups::HostGroup;
-use crate::guests::{GuestSteps, HostBox};
-use crate::nodes::step_away;
+use crate::guests::{GuestSteps, HostSlot, taken_sight};
+use crate::nodes::{lost, step_away};
 use crate::showing::HostHouses;
 use blob_store::{AbsenceReceipt, PutReceipt, ShelfAccess};
-use byte_view::BlobInfo;
-use connection_rules::Stage;
+use change_log::Log;
 use desk_seats::SeatedDesk;
 use event_loop::SlowSteps;
 use host_disk::Disk;
@@ -14,14 +13,13 @@ use peer_link::TcpLink;
 use seen_lists::ListName;
 use shared_desk::Desk;
 use shared_house::{DeskVisitor, GroupFiles, Guest, Patient, SharedHouse};
-use site_change::Entry;
-use site_desk::{DeskName, Notice, Seat};
+use site_desk::{DeskName, KnownFiles, Notice, Seat};
 use std::alloc::Global;
 use std::net::{Net, TcpStream};
 use std::sync::{Mutex, Wait};
 use std::thread::Threads;
 use std::time::Clock;
-use worker_connections::{Holding, Next, Step};
+use worker_connections::Step;
 
 /// The steps of one request.
 type AwaySteps<'a, 'g, 'h, J, K, D, S, T, R, Q, U, N> = GuestSteps<
@@ -38,10 +36,10 @@ type AwaySteps<'a, 'g, 'h, J, K, D, S, T, R, Q, U, N> = GuestSteps<
 pub(crate) struct GuestErrands<
     'a,
     J: DeskName,
-    K: ListName<BlobInfo>,
+    K: ListName<KnownFiles>,
     D: Disk,
     S,
-    T: Absorb<Notice<J>, State = [Entry; 0]> + Drop,
+    T: Absorb<Notice<J>, State = Log> + Drop,
     R: Wait + Drop,
     Q,
     G,
@@ -61,10 +59,10 @@ fn steps_of<
     'g,
     'h,
     J: DeskName,
-    K: ListName<BlobInfo>,
+    K: ListName<KnownFiles>,
     D: Disk,
     S,
-    T: Absorb<Notice<J>, State = [Entry; 0]> + Drop,
+    T: Absorb<Notice<J>, State = Log> + Drop,
     R: Net<Stream = TcpStream> + Clock + Wait + Threads + Drop,
     Q: ShelfAccess<S, U, N>,
     U: PutReceipt + Drop,
@@ -88,36 +86,24 @@ fn steps_of<
 
 impl<
     J: DeskName,
-    K: ListName<BlobInfo>,
+    K: ListName<KnownFiles>,
     D: Disk,
     S,
-    T: Absorb<Notice<J>, State = [Entry; 0]> + Drop,
+    T: Absorb<Notice<J>, State = Log> + Drop,
     R: Net<Stream = TcpStream> + Clock + Wait + Threads + Drop,
     Q: ShelfAccess<S, U, N>,
     U: PutReceipt + Drop,
     N: AbsenceReceipt + Drop,
 > SlowSteps for GuestErrands<'_, J, K, D, S, T, R, Q, HostGroup<'_, '_, R, S, Q, U, N>> {
-    type Connection = HostBox<J, K, D, S, Q, U, N>;
+    type Connection = HostSlot<J, K, D, S, Q, U, N>;
 
-    fn go_on(&mut self, alloc: Global, noted: &mut HostBox<J, K, D, S, Q, U, N>) -> Step {
-        let Some(sight) = noted.sight.take() else {
+    fn go_on(&mut self, alloc: Global, noted: &mut HostSlot<J, K, D, S, Q, U, N>) -> Step {
+        let Some(sight) = taken_sight(noted) else {
             return lost();
         };
         match steps_of(self, sight) {
             Some(steps) => step_away(steps, alloc, noted),
             None => lost(),
         }
-    }
-}
-
-/// The step of a connection that can't be answered.
-fn lost() -> Step {
-    Step {
-        next: Next::Ends,
-        stage: Stage::Closing,
-        read: 0,
-        written: 0,
-        answers: false,
-        holds: Holding::Nothing,
     }
 }

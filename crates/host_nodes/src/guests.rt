@@ -9,15 +9,15 @@ ghost use Rattle.shared_house.specs.Desks.{shows};
 ghost use Rattle.host_nodes.specs.Carried.{IsCarried};
 
 use crate::inputs::Input;
+use crate::nodes::TakesSteps;
 use crate::showing::{AsksOver, HostHouses, Houses};
-use byte_view::BlobInfo;
 use connection_rules::{HeldReply, Stage};
-use event_loop::{NotBegun, SlowSteps, Steps};
+use event_loop::NotBegun;
 use host_connection::{Connection, Metered, Progress, Stage as Phase, Wants};
 use host_names::Digest;
 use seen_lists::ListName;
-use shared_house::{DeskVisitor, FileAccess, Guest, Haste, Note, Patient, Quick};
-use site_desk::DeskName;
+use shared_house::{DeskVisitor, FileAccess, Guest, Haste, Note};
+use site_desk::{DeskName, KnownFiles};
 use std::alloc::{AllocError, Global};
 use std::marker::PhantomData;
 use std::net::TcpStream;
@@ -30,12 +30,12 @@ use worker_connections::{Holding, Interest, Next, Step};
 /// The note stays the connection's own: over all that went over the socket, the connection and the note are what the steps of workers made of them, each
 /// with the note that the one before left.
 #[derive(Drop)]
-pub(crate) struct Noted<J: DeskName, K: ListName<BlobInfo>, M: Houses> {
+pub(crate) struct Noted<J: DeskName, K: ListName<KnownFiles>, M: Houses> {
     connection: Connection,
     note: Note<J, K>,
     trail: Trail,
     input: Input,
-    pub(crate) sight: Option<DeskVisitor<J>>,
+    sight: Option<DeskVisitor<J>>,
     houses: PhantomData<M>,
     ghost carried: { ∥ IsCarried (shows M.did M.fails) trail note connection ∥₁ },
 }
@@ -43,18 +43,21 @@ pub(crate) struct Noted<J: DeskName, K: ListName<BlobInfo>, M: Houses> {
 /// It is in a box, so a worker that takes a step and threads that hand it on move its address alone.
 pub(crate) type NotedBox<J, K, M> = Box<Noted<J, K, M>>;
 
+/// A place for one, as a node keeps it. From its beginning on there is one.
+pub(crate) type NotedSlot<J, K, M> = Option<NotedBox<J, K, M>>;
+
 /// That of a host over such disks, whose shelf is reached this way.
-pub(crate) type HostBox<J, K, D, S, Q, U, N> = NotedBox<J, K, HostHouses<J, D, S, Q, U, N>>;
+pub(crate) type HostSlot<J, K, D, S, Q, U, N> = NotedSlot<J, K, HostHouses<J, D, S, Q, U, N>>;
 
 /// Puts it into a box.
-fn boxed<J: DeskName, K: ListName<BlobInfo>, M: Houses>(
+fn boxed<J: DeskName, K: ListName<KnownFiles>, M: Houses>(
     alloc: Global,
     noted: Noted<J, K, M>,
 ) -> Result<NotedBox<J, K, M>, AllocError> {
     Ok(Box::new(alloc, noted)?)
 }
 
-impl<J: DeskName, K: ListName<BlobInfo>, M: Houses> Noted<J, K, M> {
+impl<J: DeskName, K: ListName<KnownFiles>, M: Houses> Noted<J, K, M> {
     /// A connection that has read nothing, with a note of its own.
     fn new(connection: Connection, note: Note<J, K>) -> Noted<J, K, M>
         requires { IsFresh connection }
@@ -96,12 +99,12 @@ impl<J: DeskName, K: ListName<BlobInfo>, M: Houses> Noted<J, K, M> {
 
 /// A guest, as what goes on with the connections of a worker, in such houses.
 #[derive(Drop)]
-pub(crate) struct GuestSteps<J: DeskName, K: ListName<BlobInfo>, M, A: Drop, G: Drop, H: Drop> {
+pub(crate) struct GuestSteps<J: DeskName, K: ListName<KnownFiles>, M, A: Drop, G: Drop, H: Drop> {
     guest: Guest<J, K, A, G, H>,
     houses: PhantomData<M>,
 }
 
-impl<J: DeskName, K: ListName<BlobInfo>, M, A: Drop, G: Drop, H: Drop> GuestSteps<
+impl<J: DeskName, K: ListName<KnownFiles>, M, A: Drop, G: Drop, H: Drop> GuestSteps<
     J,
     K,
     M,
@@ -118,47 +121,53 @@ impl<J: DeskName, K: ListName<BlobInfo>, M, A: Drop, G: Drop, H: Drop> GuestStep
     }
 }
 
-/// A worker waits for nothing but its set.
+/// A connection that has read nothing, with this note.
+fn begun<J: DeskName, K: ListName<KnownFiles>, M: Houses>(
+    alloc: Global,
+    note: Note<J, K>,
+) -> Result<NotedBox<J, K, M>, NotBegun> {
+    let connection = Connection::new(alloc)?;
+    Ok(boxed(alloc, Noted::new(connection, note))?)
+}
+
 impl<
     J: DeskName,
-    K: ListName<BlobInfo>,
+    K: ListName<KnownFiles>,
     M: Houses,
     A: AsksOver<J, K, M, G> + Drop,
     G: FileAccess + Drop,
-> Steps for GuestSteps<J, K, M, A, G, Quick> {
-    type Socket = TcpStream;
-
+    H: Haste + Drop,
+> TakesSteps for GuestSteps<J, K, M, A, G, H> {
     type Connection = NotedBox<J, K, M>;
 
-    fn begin(&mut self, alloc: Global, _socket: &TcpStream) -> Result<NotedBox<J, K, M>, NotBegun> {
-        let connection = Connection::new(alloc)?;
-        Ok(boxed(alloc, Noted::new(connection, self.guest.note()))?)
-    }
-
-    fn go_on(&mut self, alloc: Global, noted: &mut NotedBox<J, K, M>, socket: &TcpStream) -> Step {
-        step_of(&mut self.guest, alloc, noted, Some(socket))
+    fn take_step(
+        &mut self,
+        alloc: Global,
+        noted: &mut NotedSlot<J, K, M>,
+        stream: Option<&TcpStream>,
+    ) -> Result<Option<Step>, NotBegun> {
+        if let Some(noted) = noted {
+            return Ok(Some(step_of(&mut self.guest, alloc, noted, stream)));
+        }
+        *noted = Some(begun(alloc, self.guest.note())?);
+        Ok(None)
     }
 }
 
-/// The steps of a thread that may wait need no socket.
-impl<
-    J: DeskName,
-    K: ListName<BlobInfo>,
-    M: Houses,
-    A: AsksOver<J, K, M, G> + Drop,
-    G: FileAccess + Drop,
-> SlowSteps for GuestSteps<J, K, M, A, G, Patient> {
-    type Connection = NotedBox<J, K, M>;
-
-    fn go_on(&mut self, alloc: Global, noted: &mut NotedBox<J, K, M>) -> Step {
-        step_of(&mut self.guest, alloc, noted, None)
+/// Takes what a worker saw for the request of a connection that it left, if there is one.
+pub(crate) fn taken_sight<J: DeskName, K: ListName<KnownFiles>, M: Houses>(
+    noted: &mut NotedSlot<J, K, M>,
+) -> Option<DeskVisitor<J>> {
+    match noted {
+        Some(noted) => noted.sight.take(),
+        None => None,
     }
 }
 
 /// A step of a connection over a socket, by a guest.
 fn step_of<
     J: DeskName,
-    K: ListName<BlobInfo>,
+    K: ListName<KnownFiles>,
     M: Houses,
     A: AsksOver<J, K, M, G>,
     G: FileAccess,

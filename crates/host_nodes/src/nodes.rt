@@ -1,19 +1,111 @@
 //! The threads of the nodes.
-use event_loop::{ErrandTurns, ErrandWorker, Node, NodeTurns, SlowSteps, Steps, Worker, work};
+use connection_rules::Stage;
+use event_loop::{
+    ErrandTurns, ErrandWorker, Node, NodeTurns, NotBegun, SlowSteps, Steps, TcpNode, Worker, work,
+};
 use node_process::Start;
 use socket_sets::{Listener, SocketSet, Waits};
 use std::alloc::{AllocError, Global};
+use std::net::TcpStream;
 use std::sync::Wait;
 use std::thread;
 use std::thread::Threads;
 use std::time::Clock;
-use worker_connections::Step;
+use worker_connections::{Holding, Next, Step};
 
 /// How many threads of a node answer what its workers leave.
 pub(crate) const ERRAND_THREADS: usize = 2;
 
 /// How many threads of a node answer other nodes.
 pub(crate) const PEER_THREADS: usize = 2;
+
+/// What begins connections over TCP, and takes their steps. Whoever has any such thing knows nothing of its connections.
+///
+/// One call does both. For each method of a trait the prover compares the types of whoever calls with those of the impl; where there are as many types as in a
+/// thread of the nodes, it has time for one method alone.
+pub(crate) trait TakesSteps {
+    /// What a connection takes along.
+    type Connection: Drop;
+
+    /// Takes a step of a connection, over its socket if it has one here. If there is no connection yet, one begins in this place, which takes no step.
+    fn take_step(
+        &mut self,
+        alloc: Global,
+        connection: &mut Option<Self::Connection>,
+        stream: Option<&TcpStream>,
+    ) -> Result<Option<Step>, NotBegun>;
+}
+
+/// The step of a connection that can't go on.
+pub(crate) fn lost() -> Step {
+    Step {
+        next: Next::Ends,
+        stage: Stage::Closing,
+        read: 0,
+        written: 0,
+        answers: false,
+        holds: Holding::Nothing,
+    }
+}
+
+/// The step that was taken. There is always one where the connection had begun.
+fn step_taken(taken: Result<Option<Step>, NotBegun>) -> Step {
+    match taken {
+        Ok(Some(step)) => step,
+        Ok(None) | Err(_) => lost(),
+    }
+}
+
+/// The steps of a worker over TCP. It waits for nothing but its set.
+#[derive(Drop)]
+struct OverTcp<W: Drop> {
+    steps: W,
+}
+
+impl<W: TakesSteps + Drop> Steps for OverTcp<W> {
+    type Socket = TcpStream;
+
+    type Connection = Option<W::Connection>;
+
+    fn begin(
+        &mut self,
+        alloc: Global,
+        _socket: &TcpStream,
+    ) -> Result<Option<W::Connection>, NotBegun> {
+        let mut connection = None;
+        self.steps.take_step(alloc, &mut connection, None)?;
+        Ok(connection)
+    }
+
+    fn go_on(
+        &mut self,
+        alloc: Global,
+        connection: &mut Option<W::Connection>,
+        socket: &TcpStream,
+    ) -> Step {
+        step_taken(self.steps.take_step(alloc, connection, Some(socket)))
+    }
+}
+
+/// Takes the step of a connection that is given to a thread that may wait. It needs no socket.
+pub(crate) fn step_away<W: TakesSteps + Drop>(
+    mut steps: W,
+    alloc: Global,
+    connection: &mut Option<W::Connection>,
+) -> Step {
+    step_taken(steps.take_step(alloc, connection, None))
+}
+
+/// Serves whoever connects to a node over TCP, until it ends.
+pub(crate) fn serve_tcp<R: Wait + Clock, W: TakesSteps + Drop>(
+    rt: &R,
+    alloc: Global,
+    node: &TcpNode<Option<W::Connection>>,
+    steps: W,
+) {
+    let steps = OverTcp { steps };
+    serve_clients(rt, alloc, Job { node, steps });
+}
 
 /// A worker, and the node whose clients it serves.
 #[derive(Drop)]
@@ -48,15 +140,6 @@ pub(crate) fn do_errands<R: Wait + Clock, S: SlowSteps + Drop, K: Drop, L: Drop,
     let mut turns = ErrandTurns::new(rt, node);
     let mut worker = ErrandWorker::new(rt, alloc, node, steps);
     work(rt, &mut turns, &mut worker);
-}
-
-/// Makes the step of a connection that is given to a thread that may wait.
-pub(crate) fn step_away<S: SlowSteps + Drop>(
-    mut steps: S,
-    alloc: Global,
-    connection: &mut S::Connection,
-) -> Step {
-    steps.go_on(alloc, connection)
 }
 
 /// What the threads share: the desk, and for each node a seat, its part in the group, its clients, and the other nodes that ask it.

@@ -1,6 +1,5 @@
 //! A desk is opened, and its nodes serve.
 ghost use Rattle.std.specs.Prelude.{◌≡◌, ◌<◌, ◌≤◌};
-ghost use Rattle.shared_desk.specs.FoundFiles.{files_of};
 ghost use Rattle.shared_desk.specs.NewDesks.{AreNames};
 ghost use Rattle.host_nodes.specs.Ports.{LeavesRoom};
 
@@ -12,7 +11,7 @@ use crate::posts::{Plan, Posts, Staff, posts_of};
 use crate::runtimes::Serving;
 use crate::showing::Houses;
 use blob_store::{AbsenceReceipt, PutReceipt, Shelf, ShelfAccess};
-use byte_view::BlobInfo;
+use change_log::Log;
 use command_line::ServeOptions;
 use connection_rules::Limits;
 use found_host::{Found, OpenFault};
@@ -23,8 +22,7 @@ use node_process::{Process, Surroundings, places_of};
 use operator_notices::Notices;
 use seen_lists::{ListName, Shown};
 use shared_desk::{Desk, NewDesk, Opened, open};
-use site_change::Entry;
-use site_desk::{DeskName, HostSnap, Notice};
+use site_desk::{DeskName, HostSnap, KnownFiles, Notice};
 use std::alloc::{AllocError, Global};
 use std::net::{Net, TcpListener, TcpStream};
 use std::sync::{Arc, Wait};
@@ -41,12 +39,12 @@ fn boxed<T: Drop>(alloc: Global, value: T) -> Result<Box<T>, AllocError> {
 #[derive(Drop)]
 struct OpenDesk<
     J: DeskName,
-    K: ListName<BlobInfo>,
+    K: ListName<KnownFiles>,
     D: Disk + Drop,
     S: Shelf + Drop,
     R: Wait + Drop,
 > {
-    desk: Box<Desk<J, K, D, S, Shown<Entry, J, HostSnap>, R>>,
+    desk: Box<Desk<J, K, D, S, Shown<Log, J, HostSnap>, R>>,
     staff: Staff<J>,
 }
 
@@ -60,7 +58,7 @@ pub(crate) fn numbers(options: &ServeOptions) -> (u64, u64)
 }
 
 /// Puts a desk that was just opened into a place of its own, with its seats and its visitor beside it.
-fn staffed<J: DeskName, K: ListName<BlobInfo>, D: Disk + Drop, S: Shelf + Drop, R: Wait + Drop>(
+fn staffed<J: DeskName, K: ListName<KnownFiles>, D: Disk + Drop, S: Shelf + Drop, R: Wait + Drop>(
     alloc: Global,
     opened: Opened<J, K, D, S, R>,
 ) -> Result<OpenDesk<J, K, D, S, R>, Failure> {
@@ -79,7 +77,7 @@ fn or_no_memory<T, E: Drop>(outcome: Result<T, E>) -> Result<T, Failure> {
 }
 
 /// Opens the desk of what was found, with a seat for each node and this many visitors.
-fn open_desk<J: DeskName, K: ListName<BlobInfo>, D: Disk + Drop, S: Shelf + Drop, R: Wait + Drop>(
+fn open_desk<J: DeskName, K: ListName<KnownFiles>, D: Disk + Drop, S: Shelf + Drop, R: Wait + Drop>(
     rt: R,
     alloc: Global,
     new: NewDesk,
@@ -88,7 +86,7 @@ fn open_desk<J: DeskName, K: ListName<BlobInfo>, D: Disk + Drop, S: Shelf + Drop
 ) -> Result<OpenDesk<J, K, D, S, R>, Failure>
     requires names { AreNames J.name J.parts J.book K.book new }
     requires entries { J.found ≡ found.journal.entries }
-    requires uploads { K.found ≡ files_of found.store.known }
+    requires uploads { K.found ≡ found.store.known }
     requires limit { found.limit ≡ 1000000 }
     requires visitors { (0 < visitors) × (visitors ≤ 64) }
 {
@@ -119,7 +117,7 @@ fn plan_of<P: Process>(
 /// Binds the ports that the words ask for, and gives these who work at a desk their posts there.
 fn posts_at<
     J: DeskName,
-    K: ListName<BlobInfo>,
+    K: ListName<KnownFiles>,
     M: Houses,
     R: Net<Listener = TcpListener, Stream = TcpStream>,
 >(
@@ -139,10 +137,10 @@ fn posts_at<
 /// Serves at a desk, with these who work at it.
 fn serve_staffed<
     J: DeskName + Send + Sync,
-    K: ListName<BlobInfo> + Send + Sync,
+    K: ListName<KnownFiles> + Send + Sync,
     D: Disk + Send,
     S: Shelf + Send,
-    T: Absorb<Notice<J>, State = [Entry; 0]> + Drop + Send + Sync,
+    T: Absorb<Notice<J>, State = Log> + Drop + Send + Sync,
     R: Serving,
     Q: ShelfAccess<S, U, N> + Send + Sync,
     U: PutReceipt + Drop + Send + Sync,
@@ -170,7 +168,7 @@ fn serve_staffed<
 /// Serves from a desk that is open.
 fn serve_open<
     J: DeskName + Send + Sync,
-    K: ListName<BlobInfo> + Send + Sync,
+    K: ListName<KnownFiles> + Send + Sync,
     D: Disk + Drop + Send,
     S: Shelf + Drop + Send,
     R: Serving,
@@ -198,7 +196,7 @@ fn serve_open<
 /// Serves from the desk of what was found, which has the runtime for its own.
 pub(crate) fn serve_found<
     J: DeskName + Send + Sync,
-    K: ListName<BlobInfo> + Send + Sync,
+    K: ListName<KnownFiles> + Send + Sync,
     D: Disk + Drop + Send,
     S: Shelf + Drop + Send,
     R: Serving,
@@ -221,7 +219,7 @@ pub(crate) fn serve_found<
 ) -> Result<(), Failure>
     requires names { AreNames J.name J.parts J.book K.book new }
     requires entries { J.found ≡ found.journal.entries }
-    requires uploads { K.found ≡ files_of found.store.known }
+    requires uploads { K.found ≡ found.store.known }
     requires limit { found.limit ≡ 1000000 }
     requires ports { LeavesRoom options.now.listen }
 {

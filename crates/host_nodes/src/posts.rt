@@ -1,18 +1,17 @@
 //! What each node has of its own, and what is to be done there.
-use crate::guests::NotedBox;
+use crate::guests::NotedSlot;
 use crate::lines::Failure;
 use crate::nodes::PEER_THREADS;
 use crate::ports::{Bound, Ports};
 use crate::showing::Houses;
 use crate::task_lists::{Task, tasks_of};
-use byte_view::BlobInfo;
 use connection_rules::Limits;
 use event_loop::{Node, NodePlan, TcpNode};
 use operator_notices::Notices;
 use peer_link::PeerConnection;
 use seen_lists::ListName;
 use shared_house::DeskVisitor;
-use site_desk::{DeskName, Seat, Seats};
+use site_desk::{DeskName, KnownFiles, Seat, Seats};
 use socket_sets::ReadySet;
 use std::alloc::{AllocError, Global};
 use std::net::TcpListener;
@@ -92,15 +91,15 @@ pub(crate) struct Staff<J: DeskName> {
 
 /// What each node has of its own: a seat, the clients that it serves, the other nodes that it answers, and its ports.
 #[derive(Drop)]
-pub(crate) struct Places<J: DeskName, K: ListName<BlobInfo>, M: Houses> {
+pub(crate) struct Places<J: DeskName, K: ListName<KnownFiles>, M: Houses> {
     pub(crate) seats: Vec<Mutex<Seat<J>>>,
-    pub(crate) nodes: Vec<TcpNode<NotedBox<J, K, M>>>,
+    pub(crate) nodes: Vec<TcpNode<NotedSlot<J, K, M>>>,
     pub(crate) peers: Vec<TcpNode<PeerConnection>>,
     pub(crate) ports: Vec<Ports>,
 }
 
 /// A place for each of these ports.
-fn places_of<J: DeskName, K: ListName<BlobInfo>, M: Houses>(
+fn places_of<J: DeskName, K: ListName<KnownFiles>, M: Houses>(
     alloc: Global,
     seats: Seats<J>,
     bound: Bound,
@@ -112,7 +111,7 @@ fn places_of<J: DeskName, K: ListName<BlobInfo>, M: Houses>(
         ports,
     } = bound;
     let seats = seats_of(alloc, seats, ports.len())?;
-    let nodes = nodes_of::<NotedBox<J, K, M>>(
+    let nodes = nodes_of::<NotedSlot<J, K, M>>(
         alloc,
         clients,
         plan.workers,
@@ -140,13 +139,13 @@ fn places_of<J: DeskName, K: ListName<BlobInfo>, M: Houses>(
 
 /// The places of the nodes, and what is to be done there.
 #[derive(Drop)]
-pub(crate) struct Posts<J: DeskName, K: ListName<BlobInfo>, M: Houses> {
+pub(crate) struct Posts<J: DeskName, K: ListName<KnownFiles>, M: Houses> {
     pub(crate) places: Places<J, K, M>,
     pub(crate) tasks: Vec<Task<J>>,
 }
 
 /// The posts of these who work at a desk, at these ports.
-pub(crate) fn posts_of<J: DeskName, K: ListName<BlobInfo>, M: Houses>(
+pub(crate) fn posts_of<J: DeskName, K: ListName<KnownFiles>, M: Houses>(
     alloc: Global,
     staff: Staff<J>,
     bound: Bound,

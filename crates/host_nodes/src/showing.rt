@@ -6,15 +6,14 @@ ghost use Rattle.desk_seats.specs.Asked.{IsAsked};
 
 use crate::groups::HostGroup;
 use blob_store::{AbsenceReceipt, PutReceipt, ShelfAccess};
-use byte_view::BlobInfo;
+use change_log::Log;
 use desk_seats::SeatedDesk;
 use host_disk::Disk;
 use left_right::Absorb;
 use peer_link::TcpLink;
 use seen_lists::ListName;
 use shared_house::{CachedFiles, DeskAccess, FileAccess, GroupFiles};
-use site_change::Entry;
-use site_desk::{DeskName, Notice};
+use site_desk::{DeskName, KnownFiles, Notice};
 use std::marker::PhantomData;
 use std::net::{Net, TcpStream};
 use std::sync::Wait;
@@ -56,10 +55,12 @@ impl<
 }
 
 /// A desk of houses with such files. What the two show is what such houses show: so what steps of these houses carried is carried, and goes on in them.
-pub(crate) trait AsksOver<J: DeskName, K: ListName<BlobInfo>, M: Houses, G: FileAccess>: DeskAccess<
-    J,
-    K,
-> {
+pub(crate) trait AsksOver<
+    J: DeskName,
+    K: ListName<KnownFiles>,
+    M: Houses,
+    G: FileAccess,
+>: DeskAccess<J, K> {
     ghost use Rattle.std.specs.Prelude.{List};
     ghost use Rattle.http_wire.specs.Timing.{Event};
     ghost use Rattle.host_connection.specs.declared.steps.Connection.{Connection};
@@ -81,10 +82,10 @@ impl<
     'g,
     'h,
     J: DeskName,
-    K: ListName<BlobInfo>,
+    K: ListName<KnownFiles>,
     D: Disk,
     S,
-    T: Absorb<Notice<J>, State = [Entry; 0]> + Drop,
+    T: Absorb<Notice<J>, State = Log> + Drop,
     R: Net<Stream = TcpStream> + Clock + Wait + Threads + Drop,
     Q: ShelfAccess<S, U, N>,
     U: PutReceipt + Drop,
@@ -101,10 +102,10 @@ impl<
     'g,
     'h,
     J: DeskName,
-    K: ListName<BlobInfo>,
+    K: ListName<KnownFiles>,
     D: Disk,
     S,
-    T: Absorb<Notice<J>, State = [Entry; 0]> + Drop,
+    T: Absorb<Notice<J>, State = Log> + Drop,
     R: Net<Stream = TcpStream> + Clock + Wait + Threads + Drop,
     Q: ShelfAccess<S, U, N>,
     U: PutReceipt + Drop,

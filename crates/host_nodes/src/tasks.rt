@@ -1,13 +1,13 @@
 //! What each thread of the nodes does.
 use crate::errands::GuestErrands;
 use crate::groups::HostGroup;
-use crate::guests::{GuestSteps, HostBox};
-use crate::nodes::{Job, Place, Shared, do_errands, place_at, serve_clients};
+use crate::guests::{GuestSteps, HostSlot};
+use crate::nodes::{Job, Place, Shared, do_errands, place_at, serve_clients, serve_tcp};
 use crate::peer_ports::PeerSteps;
 use crate::showing::HostHouses;
 use crate::task_lists::Task;
 use blob_store::{AbsenceReceipt, PutReceipt, Shelf, ShelfAccess};
-use byte_view::BlobInfo;
+use change_log::Log;
 use desk_seats::SeatedDesk;
 use event_loop::TcpNode;
 use host_disk::Disk;
@@ -17,11 +17,9 @@ use peer_link::PeerConnection;
 use seen_lists::ListName;
 use shared_desk::Desk;
 use shared_house::{CachedFiles, DeskVisitor, Guest, Quick, SharedHouse};
-use site_change::Entry;
-use site_desk::{DeskName, Notice, Seat};
-use socket_sets::ReadySet;
+use site_desk::{DeskName, KnownFiles, Notice, Seat};
 use std::alloc::Global;
-use std::net::{Net, TcpListener, TcpStream};
+use std::net::{Net, TcpStream};
 use std::sync::{Mutex, Wait};
 use std::thread::Threads;
 use std::time::Clock;
@@ -33,7 +31,7 @@ pub(crate) type HostShared<'a, 'g, 'h, J, K, D, S, T, R, Q, U, N> = Shared<
     Desk<J, K, D, S, T, R>,
     Mutex<Seat<J>>,
     HostGroup<'g, 'h, R, S, Q, U, N>,
-    TcpNode<HostBox<J, K, D, S, Q, U, N>>,
+    TcpNode<HostSlot<J, K, D, S, Q, U, N>>,
     TcpNode<PeerConnection>,
 >;
 
@@ -42,23 +40,18 @@ type HostPlace<'s, 'g, 'h, J, K, D, R, S, Q, U, N> = Place<
     's,
     Mutex<Seat<J>>,
     HostGroup<'g, 'h, R, S, Q, U, N>,
-    TcpNode<HostBox<J, K, D, S, Q, U, N>>,
+    TcpNode<HostSlot<J, K, D, S, Q, U, N>>,
     TcpNode<PeerConnection>,
 >;
 
-/// A worker of a node.
-type HostJob<'a, 'g, 'h, J, K, D, S, T, R, Q, U, N> = Job<
-    'a,
-    GuestSteps<
-        J,
-        K,
-        HostHouses<J, D, S, Q, U, N>,
-        SeatedDesk<'a, J, K, D, S, T, R, R, Q, U, N>,
-        CachedFiles<'a, R, HostGroup<'g, 'h, R, S, Q, U, N>>,
-        Quick,
-    >,
-    TcpListener,
-    ReadySet,
+/// The steps of a worker.
+type HostSteps<'a, 'g, 'h, J, K, D, S, T, R, Q, U, N> = GuestSteps<
+    J,
+    K,
+    HostHouses<J, D, S, Q, U, N>,
+    SeatedDesk<'a, J, K, D, S, T, R, R, Q, U, N>,
+    CachedFiles<'a, R, HostGroup<'g, 'h, R, S, Q, U, N>>,
+    Quick,
 >;
 
 /// What the threads of all nodes work with, beside their places.
@@ -81,16 +74,16 @@ impl<'a, 'l, Q> Means<'a, 'l, Q> {
     }
 }
 
-/// What a worker of a node works with. There is none only for want of memory.
-fn job_of<
+/// What takes the steps of a worker. There is nothing if memory lacks.
+fn steps_of<
     'a,
     'g,
     'h,
     J: DeskName,
-    K: ListName<BlobInfo>,
+    K: ListName<KnownFiles>,
     D: Disk,
     S: Shelf,
-    T: Absorb<Notice<J>, State = [Entry; 0]> + Drop,
+    T: Absorb<Notice<J>, State = Log> + Drop,
     R: Net<Stream = TcpStream> + Clock + Wait + Threads + Drop,
     Q: ShelfAccess<S, U, N>,
     U: PutReceipt + Drop,
@@ -102,15 +95,11 @@ fn job_of<
     parsing: &'a Mutex<()>,
     place: &HostPlace<'a, 'g, 'h, J, K, D, R, S, Q, U, N>,
     visitor: DeskVisitor<J>,
-) -> Option<HostJob<'a, 'g, 'h, J, K, D, S, T, R, Q, U, N>> {
+) -> Option<HostSteps<'a, 'g, 'h, J, K, D, S, T, R, Q, U, N>> {
     let desk = SeatedDesk::new(rt, desk, access, place.seat, parsing);
     let files = CachedFiles::new(rt, place.group);
     let house = SharedHouse::new(visitor, desk, files).ok()?;
-    let guest = Guest::new(house, Quick);
-    Some(Job {
-        node: place.node,
-        steps: GuestSteps::new(guest),
-    })
+    Some(GuestSteps::new(Guest::new(house, Quick)))
 }
 
 /// Serves the clients of a node with this visitor, until it ends.
@@ -119,10 +108,10 @@ fn serve_with<
     'g,
     'h,
     J: DeskName,
-    K: ListName<BlobInfo>,
+    K: ListName<KnownFiles>,
     D: Disk,
     S: Shelf,
-    T: Absorb<Notice<J>, State = [Entry; 0]> + Drop,
+    T: Absorb<Notice<J>, State = Log> + Drop,
     R: Net<Stream = TcpStream> + Clock + Wait + Threads + Drop,
     Q: ShelfAccess<S, U, N>,
     U: PutReceipt + Drop,
@@ -136,8 +125,9 @@ fn serve_with<
     place: &HostPlace<'a, 'g, 'h, J, K, D, R, S, Q, U, N>,
     visitor: DeskVisitor<J>,
 ) {
-    if let Some(job) = job_of(rt, desk, access, parsing, place, visitor) {
-        serve_clients(rt, alloc, job);
+    let node = place.node;
+    if let Some(steps) = steps_of(rt, desk, access, parsing, place, visitor) {
+        serve_tcp(rt, alloc, node, steps);
     }
 }
 
@@ -147,10 +137,10 @@ fn answer_left<
     'g,
     'h,
     J: DeskName,
-    K: ListName<BlobInfo>,
+    K: ListName<KnownFiles>,
     D: Disk,
     S: Shelf,
-    T: Absorb<Notice<J>, State = [Entry; 0]> + Drop,
+    T: Absorb<Notice<J>, State = Log> + Drop,
     R: Net<Stream = TcpStream> + Clock + Wait + Threads + Drop,
     Q: ShelfAccess<S, U, N>,
     U: PutReceipt + Drop,
@@ -177,7 +167,7 @@ fn answer_left<
 /// Answers other nodes from the part of a node in the group, until it ends.
 fn answer_peers<
     J: DeskName,
-    K: ListName<BlobInfo>,
+    K: ListName<KnownFiles>,
     D: Disk,
     S,
     R: Net<Stream = TcpStream> + Clock + Wait,
@@ -203,10 +193,10 @@ fn answer_peers<
 fn do_task<
     'a,
     J: DeskName,
-    K: ListName<BlobInfo>,
+    K: ListName<KnownFiles>,
     D: Disk,
     S: Shelf,
-    T: Absorb<Notice<J>, State = [Entry; 0]> + Drop,
+    T: Absorb<Notice<J>, State = Log> + Drop,
     R: Net<Stream = TcpStream> + Clock + Wait + Threads + Drop,
     Q: ShelfAccess<S, U, N>,
     U: PutReceipt + Drop,
@@ -242,10 +232,10 @@ fn do_task<
 pub(crate) fn work_on<
     'a,
     J: DeskName,
-    K: ListName<BlobInfo>,
+    K: ListName<KnownFiles>,
     D: Disk,
     S: Shelf,
-    T: Absorb<Notice<J>, State = [Entry; 0]> + Drop,
+    T: Absorb<Notice<J>, State = Log> + Drop,
     R: Net<Stream = TcpStream> + Clock + Wait + Threads + Drop,
     Q: ShelfAccess<S, U, N>,
     U: PutReceipt + Drop,

@@ -54,9 +54,9 @@ or_flips true false = refl
 or_flips false true = refl
 or_flips false false = refl
 
-pub published_more : (log : List Entry) (n : ℕ) (entry : Entry) (c : Cell) (old new : Bool) → take (n + 1) log ≡ take n log ++ entry ∷ []
-    → new ≡ (publishes c entry || old) → old ≡ list_any (publishes c) (take n log) → new ≡ list_any (publishes c) (take (n + 1) log)
-published_more log n entry c old new more is was =
+pub published_more : (log : List Entry) (n m : ℕ) (entry : Entry) (c : Cell) (old new : Bool) → take m log ≡ take n log ++ entry ∷ []
+    → new ≡ (publishes c entry || old) → old ≡ list_any (publishes c) (take n log) → new ≡ list_any (publishes c) (take m log)
+published_more log n m entry c old new more is was =
     is ∙ ap (λ b. publishes c entry || b) was ∙ or_flips (publishes c entry) (list_any (publishes c) (take n log))
     ∙ sym (any_last (publishes c) (take n log) entry) ∙ ap (list_any (publishes c)) (sym more)
   where

@@ -1,10 +1,12 @@
 -- Entries up to a number.
-use Rattle.std.proofs.lemmas.Bool.{eqb-true}
 use Rattle.std.proofs.Common.{◌==◌, true, false, cond, ◌≡◌, ◌∙◌, ℕ, zero, suc, ◌+◌, ◌-◌, ◌<◌, ◌≤◌, List, [], ◌∷◌, ◌++◌, IsSome, Option, Some, None, ap, arith, drop, length, refl, slice_get, subst, sym, take}
 use Rattle.std.specs.Borrow.{Bor}
 use Rattle.std.specs.Prelude.{option_copied}
+use Rattle.std.proofs.lemmas.Option.{slice_get_within}
 use Rattle.site_change.specs.declared.entries.Entry.{Entry}
-use Rattle.change_undo.specs.Histories.{entry_at}
+use Rattle.change_log.specs.Logs.{Log, entry_at, last_number, with_only}
+use Rattle.change_undo.proofs.Marked.{number_at}
+use Rattle.change_undo.proofs.Runs.{entry_at-some}
 
 module _ {X : Type 0} where
   some_within : (xs : List X) (n : ℕ) → n < length xs → IsSome (slice_get xs n)
@@ -29,39 +31,42 @@ module _ {X : Type 0} where
       go [] = refl
       go (x ∷ xs) = ap (λ l. x ∷ l) (go xs)
 
--- the entry of a number is at the place before it
-pub entry_before : (entries : List Entry) (n : ℕ) → entry_at entries (suc n) ≡ slice_get entries n
-entry_before entries n =
-    let some : (suc n == 0) ≡ false = elim (suc n == 0) as (λ t. (suc n == 0) ≡ t → t ≡ false) [ true ↦ λ z. absurd (omega (arith, eqb-true (suc n) 0 z)) | false ↦ λ z. refl ] refl in
-    let place : suc n - 1 ≡ n = omega arith in
-    ap (λ t. cond t None (slice_get entries (suc n - 1))) some ∙ ap (slice_get entries) place
+-- the entry of a number is at the place before it, from the base on
+pub entry_before : (log : Log) (i : ℕ) → entry_at log (log.base + suc i) ≡ slice_get log.entries i
+entry_before log i = number_at (slice_get log.entries) log.base (log.base + suc i) i refl
 
-pub some_entry : (entries : List Entry) (n : ℕ) → 1 ≤ n → n ≤ length entries → IsSome (entry_at entries n)
-some_entry entries zero some within = absurd (omega arith)
-some_entry entries (suc n) some within = subst (λ o. IsSome o) (sym (entry_before entries n)) (some_within entries n (omega arith))
+pub some_entry : (log : Log) (n : ℕ) → log.base < n → n ≤ last_number log → IsSome (entry_at log n)
+some_entry log n some within =
+    let i : ℕ = n - log.base - 1 in
+    let at : n ≡ log.base + suc (n - log.base - 1) = omega (arith, some) in
+    subst (λ o. IsSome o) (sym (number_at (slice_get log.entries) log.base n i at)) (some_within log.entries i (omega (arith, at, within)))
 
-entry_here : (entries : List Entry) (n : ℕ) (entry : Entry) → entry_at entries (n + 1) ≡ Some entry → slice_get entries n ≡ Some entry
-entry_here entries n entry is =
-    let next : suc n ≡ n + 1 = omega arith in
-    sym (entry_before entries n) ∙ ap (entry_at entries) next ∙ is
+entry_here : (log : Log) (n : ℕ) (entry : Entry) → log.base ≤ n → entry_at log (n + 1) ≡ Some entry → slice_get log.entries (n - log.base) ≡ Some entry
+entry_here log n entry above is =
+    let at : n + 1 ≡ log.base + suc (n - log.base) = omega (arith, above) in
+    sym (number_at (slice_get log.entries) log.base (n + 1) (n - log.base) at) ∙ is
 
-pub taken_more : (entries : List Entry) (n : ℕ) (entry : Entry) → entry_at entries (n + 1) ≡ Some entry → take (n + 1) entries ≡ take n entries ++ entry ∷ []
-taken_more entries n entry is =
-    let next : n + 1 ≡ suc n = omega arith in
-    ap (λ k. take k entries) next ∙ taken_at entries n entry (entry_here entries n entry is)
+-- the log up to a number
+abbrev pub up_to : ℕ → Log → Log
+up_to n log = with_only log (take (n - log.base) log.entries)
 
-pub split_more : (entries : List Entry) (n : ℕ) (entry : Entry) → entry_at entries (n + 1) ≡ Some entry → entries ≡ take n entries ++ entry ∷ drop (suc n) entries
-split_more entries n entry is = split_at entries n entry (entry_here entries n entry is)
+pub taken_more : (log : Log) (n : ℕ) (entry : Entry) → log.base ≤ n → entry_at log (n + 1) ≡ Some entry
+    → take (n + 1 - log.base) log.entries ≡ take (n - log.base) log.entries ++ entry ∷ []
+taken_more log n entry above is =
+    let next : n + 1 - log.base ≡ suc (n - log.base) = omega (arith, above) in
+    ap (λ k. take k log.entries) next ∙ taken_at log.entries (n - log.base) entry (entry_here log n entry above is)
+
+pub split_more : (log : Log) (n : ℕ) (entry : Entry) → log.base ≤ n → entry_at log (n + 1) ≡ Some entry
+    → log.entries ≡ take (n - log.base) log.entries ++ entry ∷ drop (suc (n - log.base)) log.entries
+split_more log n entry above is = split_at log.entries (n - log.base) entry (entry_here log n entry above is)
 
 -- the number of an entry that there is
-pub entry_within : (entries : List Entry) (n : ℕ) (entry : Entry) → entry_at entries n ≡ Some entry → (1 ≤ n) × (n ≤ length entries)
-entry_within entries zero entry is = cc is
-entry_within entries (suc n) entry is = let lt = within entries n (sym (entry_before entries n) ∙ is) in (omega arith, omega (arith, lt))
-  where
-    within : (xs : List Entry) (i : ℕ) → slice_get xs i ≡ Some entry → i < length xs
-    within [] i is = cc is
-    within (x ∷ xs) zero is = omega arith
-    within (x ∷ xs) (suc i) is = let lt = within xs i is in omega (arith, lt)
+pub entry_within : (log : Log) (n : ℕ) (entry : Entry) → entry_at log n ≡ Some entry → (log.base < n) × (n ≤ last_number log)
+entry_within log n entry is =
+    let above = entry_at-some log n entry is in
+    let at : n ≡ log.base + suc (n - log.base - 1) = omega (arith, above) in
+    let there : slice_get log.entries (n - log.base - 1) ≡ Some entry = sym (number_at (slice_get log.entries) log.base n (n - log.base - 1) at) ∙ is in
+    (above, omega (arith, at, slice_get_within log.entries (n - log.base - 1) entry there))
 
 -- a reference is there where what it points to is
 pub some_copied : (o : Option (Bor Entry)) → IsSome (option_copied o) → IsSome o

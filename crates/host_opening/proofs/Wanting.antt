@@ -1,5 +1,5 @@
 -- The needs of all entries say which files are wanted.
-use Rattle.std.proofs.Common.{◌≡◌, ◌⊎◌, ◌↔◌, ◌∙◌, ◌||◌, ◌==◌, ℕ, zero, suc, ◌+◌, ◌<◌, ◌≤◌, List, [], ◌∷◌, Bool, true, false, IsTrue, IsSome, cond, Option, Some, None, Contains, inl, inr, ap, arith, filter_map, get_or, length, map, refl, slice_get, subst, sym}
+use Rattle.std.proofs.Common.{◌≡◌, ◌⊎◌, ◌↔◌, ◌∙◌, ◌||◌, ◌==◌, ℕ, zero, suc, ◌+◌, ◌-◌, ◌<◌, ◌≤◌, List, [], ◌∷◌, Bool, true, false, IsTrue, IsSome, cond, Option, Some, None, Contains, inl, inr, ap, arith, filter_map, get_or, length, map, refl, slice_get, subst, sym}
 use Rattle.std.specs.BTreeMap.{is_at}
 use Rattle.std.specs.List.{list_any}
 use Rattle.std.specs.List.Sorted.{IsStrictlySortedBy}
@@ -26,6 +26,8 @@ use Rattle.change_undo.specs.Histories.{entry_at}
 use Rattle.host_opening.specs.Needs.{is_listed, more, one_wanted, need_at, need_if, need_in, need_up_to, publishes}
 use Rattle.host_opening.specs.WantedFiles.{AreWanted, IsPublished, Lists, wanted_digests}
 use Rattle.host_opening.proofs.Needed.{at_itself, cell_at_itself, same_cells, same_digest}
+use Rattle.change_log.specs.Logs.{Log, last_number}
+use Rattle.change_undo.proofs.Marked.{none_up_to, number_at}
 use Rattle.host_opening.proofs.Taken.{entry_before, entry_within}
 
 -- ---- what is published
@@ -47,22 +49,24 @@ publishing site n (Change (Publish s m)) e = let same : cell.Kept s m ≡ cell.K
 publishing site n (Change (Restore s m)) e = let same : cell.Kept s m ≡ cell.Kept site n = same_cells _ _ e in inr (cc same)
 publishing site n _ e = cc e
 
-is_published : (log : List Entry) (site : SiteName) (n : ℕ) → list_any (publishes (cell.Kept site n)) log ≡ true → IsPublished log site n
+is_published : (log : Log) (site : SiteName) (n : ℕ) → list_any (publishes (cell.Kept site n)) log.entries ≡ true → IsPublished log site n
 is_published log site n e =
-    let found = any_place (publishes (cell.Kept site n)) log e in
-    let here : entry_at log (suc found.0) ≡ Some found.1 = entry_before log found.0 ∙ found.2 in (
-      suc found.0,
+    let found = any_place (publishes (cell.Kept site n)) log.entries e in
+    let here : entry_at log (log.base + suc found.0) ≡ Some found.1 = entry_before log found.0 ∙ found.2 in (
+      log.base + suc found.0,
       elim (publishing site n found.1 found.3) [
         | inl is ↦ inl (here ∙ ap Some is)
         | inr is ↦ inr (here ∙ ap Some is)
       ],
     )
 
-any_entry : (log : List Entry) (k : ℕ) (c : Cell) (entry : Entry) → entry_at log k ≡ Some entry → publishes c entry ≡ true → list_any (publishes c) log ≡ true
-any_entry log zero c entry is passes = cc is
-any_entry log (suc k) c entry is passes = any_passes_from_place (publishes c) log k entry (sym (entry_before log k) ∙ is) passes
+any_entry : (log : Log) (k : ℕ) (c : Cell) (entry : Entry) → entry_at log k ≡ Some entry → publishes c entry ≡ true → list_any (publishes c) log.entries ≡ true
+any_entry log k c entry is passes =
+    let some = (entry_within log k entry is).0 in
+    let at : k ≡ log.base + suc (k - log.base - 1) = omega (arith, some) in
+    any_passes_from_place (publishes c) log.entries (k - log.base - 1) entry (sym (number_at (slice_get log.entries) log.base k (k - log.base - 1) at) ∙ is) passes
 
-was_published : (log : List Entry) (site : SiteName) (n : ℕ) → IsPublished log site n → list_any (publishes (cell.Kept site n)) log ≡ true
+was_published : (log : Log) (site : SiteName) (n : ℕ) → IsPublished log site n → list_any (publishes (cell.Kept site n)) log.entries ≡ true
 was_published log site n (k, inl is) = any_entry log k (cell.Kept site n) _ is (cell_at_itself (cell.Kept site n))
 was_published log site n (k, inr is) = any_entry log k (cell.Kept site n) _ is (cell_at_itself (cell.Kept site n))
 
@@ -84,23 +88,23 @@ was_listed q files (i, lt, here) = listed_digests q files ∙ list_any_at (is_on
 
 -- ---- what one entry needs
 
-abbrev Needs : List Entry → ℕ → Digest → Bool → Type 0
-Needs log n q b = (site : SiteName) × Lists log site n q × (b ≡ list_any (publishes (cell.Kept site n)) log)
+abbrev Needs : Log → ℕ → Digest → Bool → Type 0
+Needs log n q b = (site : SiteName) × Lists log site n q × (b ≡ list_any (publishes (cell.Kept site n)) log.entries)
 
 needed_if : (one must b : Bool) → need_if one must ≡ Some b → (one ≡ true) × (b ≡ must)
 needed_if true must b e = (refl, cc e)
 needed_if false must b e = cc e
 
-needs_of_entry : (log : List Entry) (n : ℕ) (q : Digest) (b : Bool) (o : Option Entry) → entry_at log n ≡ o → need_at log n o q ≡ Some b → Needs log n q b
+needs_of_entry : (log : Log) (n : ℕ) (q : Digest) (b : Bool) (o : Option Entry) → entry_at log n ≡ o → need_at log n o q ≡ Some b → Needs log n q b
 needs_of_entry log n q b (Some (Change (Open site files auto))) is e =
     let needed = needed_if (list_any (λ f. is_listed q f.1) files.1) _ b e in
     (site, (files, auto, is, is_listed_by q files.1 needed.0), needed.1)
 needs_of_entry log n q b _ is e = cc e
 
-lists_needs : (log : List Entry) (site : SiteName) (n : ℕ) (q : Digest) → Lists log site n q
-    → need_at log n (entry_at log n) q ≡ Some (list_any (publishes (cell.Kept site n)) log)
+lists_needs : (log : Log) (site : SiteName) (n : ℕ) (q : Digest) → Lists log site n q
+    → need_at log n (entry_at log n) q ≡ Some (list_any (publishes (cell.Kept site n)) log.entries)
 lists_needs log site n q (files, auto, is, there) =
-    let must = list_any (publishes (cell.Kept site n)) log in
+    let must = list_any (publishes (cell.Kept site n)) log.entries in
     ap (λ o. need_at log n o q) is ∙ ap (λ one. need_if one must) (was_listed q files.1 there)
 
 -- ---- what all need
@@ -125,7 +129,7 @@ right_more b d None so = (d, refl, so)
 right_more b d (Some true) so = (true, refl, λ e. refl)
 right_more b d (Some false) so = (d, refl, so)
 
-some_need : (log : List Entry) (k : ℕ) (q : Digest) (b : Bool) → need_up_to log k q ≡ Some b → (n : ℕ) × Needs log n q b
+some_need : (log : Log) (k : ℕ) (q : Digest) (b : Bool) → need_up_to log k q ≡ Some b → (n : ℕ) × Needs log n q b
 some_need log zero q b e = cc e
 some_need log (suc k) q b e = elim (more_some (need_at log (k + 1) (entry_at log (k + 1)) q) (need_up_to log k q) b e) [
   | inl here ↦ (k + 1, needs_of_entry log (k + 1) q b (entry_at log (k + 1)) refl here)
@@ -138,7 +142,7 @@ last_or_before n k le = elim (n == k + 1) as (λ b. (n == k + 1) ≡ b → (n �
   | false ↦ λ e. let differ = eqb-false n (k + 1) e in inr (omega (arith, differ))
 ] refl
 
-need_there : (log : List Entry) (k n : ℕ) (q : Digest) (b : Bool) → 1 ≤ n → n ≤ k → need_at log n (entry_at log n) q ≡ Some b → AtLeast b (need_up_to log k q)
+need_there : (log : Log) (k n : ℕ) (q : Digest) (b : Bool) → 1 ≤ n → n ≤ k → need_at log n (entry_at log n) q ≡ Some b → AtLeast b (need_up_to log k q)
 need_there log zero n q b some le e = absurd (omega arith)
 need_there log (suc k) n q b some le e = elim (last_or_before n k le) [
   | inl last ↦
@@ -150,11 +154,11 @@ need_there log (suc k) n q b some le e = elim (last_or_before n k le) [
 ]
 
 -- each listed digest is needed
-needed : (log : List Entry) (site : SiteName) (n : ℕ) (q : Digest) → Lists log site n q
-    → AtLeast (list_any (publishes (cell.Kept site n)) log) (need_up_to log (length log) q)
+needed : (log : Log) (site : SiteName) (n : ℕ) (q : Digest) → Lists log site n q
+    → AtLeast (list_any (publishes (cell.Kept site n)) log.entries) (need_up_to log (last_number log) q)
 needed log site n q lists =
     let within = entry_within log n _ lists.2 in
-    need_there log (length log) n q _ within.0 within.1 (lists_needs log site n q lists)
+    need_there log (last_number log) n q _ (omega (arith, within.0)) within.1 (lists_needs log site n q lists)
 
 -- ---- the list of what is wanted
 
@@ -171,8 +175,8 @@ from_wanted (e ∷ es) one (suc i, lt, here) =
 same_key : (x y : Digest) → eq_by_cmp digest_cmp x y ≡ true → x ≡ y
 same_key x y e = same_digest x y e
 
-pub wanted_is : (log : List Entry) (es : List (Digest × Bool)) (wanted : List Wanted) → IsStrictlySortedBy digest_cmp (keys_of es)
-    → ((q : Digest) → lookup (is_at (digest_cmp q)) es ≡ need_up_to log (length log) q) → wanted ≡ map one_wanted es → AreWanted log wanted
+pub wanted_is : (log : Log) (es : List (Digest × Bool)) (wanted : List Wanted) → IsStrictlySortedBy digest_cmp (keys_of es)
+    → ((q : Digest) → lookup (is_at (digest_cmp q)) es ≡ need_up_to log (last_number log) q) → wanted ≡ map one_wanted es → AreWanted log wanted
 wanted_is log es wanted sorted needs is =
     let equivalence = eq_by_cmp_equiv digest_cmp_total in
     subst (λ w. AreWanted log w) (sym is) (record {
@@ -181,7 +185,7 @@ wanted_is log es wanted sorted needs is =
         (λ there.
             let key : Contains (keys_of es) q = subst (λ l. Contains l q) (digests_are_keys es) there in
             let found = some_of (lookup (is_at (digest_cmp q)) es) (IsSome-lookup_from_Contains equivalence q es key) in
-            let need = some_need log (length log) q found.0 (sym (needs q) ∙ found.1) in
+            let need = some_need log (last_number log) q found.0 (sym (needs q) ∙ found.1) in
             (need.1.0, need.0, need.1.1)),
         (λ lists.
             let need = needed log lists.0 lists.1 q lists.2 in
@@ -192,9 +196,9 @@ wanted_is log es wanted sorted needs is =
           let pair = from_wanted es one there in
           let found : lookup (is_at (digest_cmp one.digest)) es ≡ Some one.must =
           lookup-from_Contains equivalence one.digest one.must es (IsDistinct-from_sorted digest_cmp (keys_of es) sorted) pair in
-          let need : need_up_to log (length log) one.digest ≡ Some one.must = sym (needs one.digest) ∙ found in (
+          let need : need_up_to log (last_number log) one.digest ≡ Some one.must = sym (needs one.digest) ∙ found in (
             (λ must.
-                let from = some_need log (length log) one.digest one.must need in
+                let from = some_need log (last_number log) one.digest one.must need in
                 (from.1.0, from.0, from.1.1, is_published log from.1.0 from.0 (sym from.1.2 ∙ must))),
             (λ lists.
                 let all = needed log lists.0 lists.1 one.digest lists.2 in
@@ -206,3 +210,11 @@ wanted_is log es wanted sorted needs is =
     some_of : (o : Option Bool) → IsSome o → (b : Bool) × (o ≡ Some b)
     some_of None some = cc some
     some_of (Some b) some = (b, refl)
+
+-- up to the base nothing is needed
+pub need_none : (log : Log) (k : ℕ) (q : Digest) → k ≤ log.base → need_up_to log k q ≡ None
+need_none log zero q low = refl
+need_none log (suc k) q low =
+    let next : k + 1 ≤ log.base = omega (arith, low) in
+    ap (λ o. more (need_at log (k + 1) o q) (need_up_to log k q)) (none_up_to (slice_get log.entries) log.base (k + 1) next)
+    ∙ need_none log k q (omega (arith, low))

@@ -30,7 +30,7 @@ publishes c entry = option_map_or (λ p. is_at (cell_cmp p) c) (published_by ent
 
 -- the set has the cells of the deploys that these entries publish
 abbrev pub HasPublished : Log → BTreeSet Cell → Type 0
-HasPublished log published = (c : Cell) → contains cell_cmp published c ≡ list_any (publishes c) log
+HasPublished log published = (c : Cell) → contains cell_cmp published c ≡ list_any (publishes c) log.entries
 
 -- ---- which digests are needed
 
@@ -54,7 +54,7 @@ need_in must files q = need_if (list_any (λ f. is_listed q f.1) files) must
 
 -- what the entry of a number needs of a digest, where this is the log
 abbrev pub need_at : Log → ℕ → Option Entry → Digest → Option Bool
-need_at log n (Some (Change (Open site files auto))) q = need_in (list_any (publishes (cell.Kept site n)) log) files.1 q
+need_at log n (Some (Change (Open site files auto))) q = need_in (list_any (publishes (cell.Kept site n)) log.entries) files.1 q
 need_at log n _ q = None
 
 -- what the entries up to the number k need of a digest

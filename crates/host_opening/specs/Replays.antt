@@ -1,5 +1,5 @@
 -- Entries taken in turn.
-use Rattle.std.specs.Prelude.{◌≡◌, ℕ, ◌≤◌, List, ◌∷◌, Some}
+use Rattle.std.specs.Prelude.{◌≡◌, ◌⊎◌, ℕ, ◌<◌, ◌≤◌, List, ◌∷◌, Some}
 use Rattle.byte_view.specs.Contents.{Contents}
 use Rattle.site_change.specs.declared.refusals.ChangeRefusal.{ChangeRefusal}
 use Rattle.site_change.specs.declared.refusals.ChangeError.{ChangeError}
@@ -8,12 +8,13 @@ use Rattle.site_state.specs.States.{State}
 use Rattle.site_change.specs.declared.entries.Entry.{Entry}
 use Rattle.site_change.specs.declared.entries.Entry.TheVariants.{Change, Undo}
 use Rattle.change_undo.specs.Histories.{IsLegal, Past, commit_refusal, run, undo_refusal}
+use Rattle.change_log.specs.Bases.{IsBase}
 use Rattle.change_log.specs.Logs.{Log, last_number, next_number, with_entries}
 use Rattle.change_undo.specs.Plans.{IsHistoryOver}
 use Rattle.host_opening.specs.declared.replays.ReplayFault.{ReplayFault}
 use Rattle.host_opening.specs.declared.replays.ReplayFault.TheVariants as fault
 
--- a history of these entries over these uploads, which may have as many as the limit says
+-- a history of this log over these uploads, whose entries may have numbers up to the limit
 pub record IsReplayed (uploads : Contents) (limit : ℕ) (log : Log) (past : Past) : Type 0 where
   pub entries_are : past.entries ≡ log
   pub limit_is : past.limit ≡ limit
@@ -31,8 +32,13 @@ IsStoppedBy uploads limit before entry (fault.NotLegal n) =
     (n ≡ next_number before) × ((reason : ChangeRefusal) × IsRefusedAfter uploads limit before entry reason)
 IsStoppedBy uploads limit before entry fault.OutOfMemory = Unit {0}
 
+-- there is no history of the base, if the log has one: it may not be one, or its number is above the limit; or there was no memory
+abbrev pub StopsAtBase : Contents → ℕ → Log → ReplayFault → Type 0
+StopsAtBase uploads limit log (fault.NotLegal n) = (n ≡ log.base) × ((limit < log.base) ⊎ ¬ (IsBase uploads log.base log.names))
+StopsAtBase uploads limit log fault.OutOfMemory = 0 < log.base
+
 -- the first ones are accepted in turn, within the limit, and the next one wasn't taken
-pub record StopsAt (uploads : Contents) (limit : ℕ) (log : Log) (stop : ReplayFault) : Type 0 where
+pub record StopsAtEntry (uploads : Contents) (limit : ℕ) (log : Log) (stop : ReplayFault) : Type 0 where
   pub before : Log
   pub entry : Entry
   pub after : List Entry
@@ -40,6 +46,10 @@ pub record StopsAt (uploads : Contents) (limit : ℕ) (log : Log) (stop : Replay
   pub legal : IsLegal uploads before
   pub within : last_number before ≤ limit
   pub stopped : IsStoppedBy uploads limit before entry stop
+
+-- where the replay of a log stops, and why: at its base, or at an entry
+abbrev pub StopsAt : Contents → ℕ → Log → ReplayFault → Type 0
+StopsAt uploads limit log stop = StopsAtBase uploads limit log stop ⊎ StopsAtEntry uploads limit log stop
 
 -- ---- what private functions say
 

@@ -42,7 +42,7 @@ pub(crate) fn published(alloc: Global, log: &Log) -> Result<BTreeSet<Cell>, Allo
     ensures { IfOk result (λ published. HasPublished log.now published) }
 {
     let mut published = BTreeSet::new(alloc);
-    for place in 0..log.len() {
+    for place in log.base()..log.len() {
         add_published(&mut published, entry_of(log, place + 1))?;
     }
     Ok(published)

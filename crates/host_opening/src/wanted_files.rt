@@ -1,5 +1,5 @@
 //! Which files a store has to be opened with.
-ghost use Rattle.std.specs.Prelude.{◌≡◌, ◌≤◌, IfOk, OnOk, map};
+ghost use Rattle.std.specs.Prelude.{◌≡◌, ◌<◌, ◌≤◌, IfOk, OnOk, map};
 ghost use Rattle.std.specs.BTreeMap.{get};
 ghost use Rattle.std.specs.List.Sorted.{IsStrictlySortedBy};
 ghost use Rattle.std.specs.Map.{keys_of};
@@ -26,7 +26,7 @@ fn add_entry(
     published: &BTreeSet<Cell>,
     number: u64,
 ) -> Result<(), AllocError>
-    requires some { 1 ≤ number }
+    requires some { log.now.base < number }
     requires within { number ≤ last_number log.now }
     requires published { HasPublished log.now published.now }
     ensures { OnOk result ((q : Name) → get digest_cmp needs.new q ≡ more (need_at log.now number (entry_at log.now number) q) (get digest_cmp needs.old q)) }
@@ -46,7 +46,7 @@ fn needs_of(alloc: Global, log: &Log) -> Result<BTreeMap<Digest, bool>, AllocErr
 {
     let published = published(alloc, log)?;
     let mut needs = BTreeMap::new(alloc);
-    for place in 0..log.len() {
+    for place in log.base()..log.len() {
         add_entry(&mut needs, log, &published, place + 1)?;
     }
     Ok(needs)

@@ -1,12 +1,13 @@
 -- What a host had stays.
-use Rattle.std.proofs.Common.{◌≡◌, ℕ, List, [], ◌∷◌, ◌++◌, ◌+◌, length, unwrap_or, Result, Ok, Err, OnOk, OnErr, IsTrue, refl, sym, ap, subst, ◌∙◌}
+use Rattle.std.proofs.Common.{◌≡◌, ℕ, List, [], ◌∷◌, ◌++◌, unwrap_or, Result, Ok, Err, OnOk, OnErr, IsTrue, refl, sym, ap, subst, ◌∙◌}
 use Rattle.std.specs.FinMap as map
-use Rattle.std.proofs.lemmas.List.{append-nil, append_assoc}
 use Rattle.byte_view.specs.Contents.{Contents, with_file}
 use Rattle.host_names.specs.declared.names.SiteName.{SiteName}
 use Rattle.site_change.specs.declared.commands.Command.{Command}
 use Rattle.site_change.specs.declared.entries.Entry.{Entry}
 use Rattle.site_change.specs.declared.entries.Entry.TheVariants.{Change, Undo}
+use Rattle.change_log.proofs.Longer.{with_both, with_none}
+use Rattle.change_log.specs.Logs.{Log, next_number, with_entries, with_entry, with_only}
 use Rattle.change_undo.specs.Histories.{Past, run, IsLegal, IsLegalAfter, is_allowed}
 use Rattle.change_undo.proofs.Runs.{history-grows, is_accepted, run-undone_at_once}
 use Rattle.site_change.proofs.MoreUploads.{IsWithin-itself}
@@ -15,10 +16,10 @@ use Rattle.host_server.specs.Growth.{grows_same, grows_upload}
 
 -- a history with one entry more, or with none
 pub grows_past : {A E : Type 0} (r : Result A E) (old new : Past) (uploads : Contents) (entry : Entry) → new.limit ≡ old.limit
-    → OnOk r (new.entries ≡ old.entries ++ entry ∷ []) → OnErr r (new.entries ≡ old.entries) → Grows (host_of old uploads) (host_of new uploads)
+    → OnOk r (new.entries ≡ with_entry old.entries entry) → OnErr r (new.entries ≡ old.entries) → Grows (host_of old uploads) (host_of new uploads)
 grows_past (Ok x) old new uploads entry limit ok err = record { same_limit = limit; more = entry ∷ []; longer = ok; uploads = IsWithin-itself uploads }
 grows_past (Err e) old new uploads entry limit ok err =
-    record { same_limit = limit; more = []; longer = err ∙ sym (append-nil old.entries); uploads = IsWithin-itself uploads }
+    record { same_limit = limit; more = []; longer = err ∙ sym (with_none old.entries); uploads = IsWithin-itself uploads }
 
 pub same_entries : {A E : Type 0} (r : Result A E) (old new : Past) → OnErr r (new ≡ old) → OnErr r (new.entries ≡ old.entries)
 same_entries (Ok x) old new err = tt
@@ -33,28 +34,28 @@ grows_uploads (Err e) past old new bytes ok err = grows_same (host_of past old) 
 -- ---- a change that is undone at once
 
 -- the entries before the last are legal, and it was allowed after them
-ends : (uploads : Contents) (seen before : List Entry) (entry : Entry) → IsLegalAfter uploads seen (before ++ entry ∷ [])
-    → IsLegalAfter uploads seen before × IsTrue (is_allowed uploads (seen ++ before) entry)
+ends : (uploads : Contents) (seen : Log) (before : List Entry) (entry : Entry) → IsLegalAfter uploads seen (before ++ entry ∷ [])
+    → IsLegalAfter uploads seen before × IsTrue (is_allowed uploads (with_entries seen before) entry)
 ends uploads seen [] entry legal =
-    let P : List Entry → Type 0 = λ es. IsTrue (is_allowed uploads es entry) in
-    (tt, subst P (sym (append-nil seen)) legal.0)
+    let P : Log → Type 0 = λ log. IsTrue (is_allowed uploads log entry) in
+    (tt, subst P (sym (with_none seen)) legal.0)
 ends uploads seen (e ∷ before) entry legal =
-    let P : List Entry → Type 0 = λ es. IsTrue (is_allowed uploads es entry) in
-    let rest = ends uploads (seen ++ e ∷ []) before entry legal.1 in
-    ((legal.0, rest.0), subst P (append_assoc seen (e ∷ []) before) rest.1)
+    let P : Log → Type 0 = λ log. IsTrue (is_allowed uploads log entry) in
+    let rest = ends uploads (with_entry seen e) before entry legal.1 in
+    ((legal.0, rest.0), subst P (with_both seen (e ∷ []) before) rest.1)
 
 -- its state is the one before the change, whatever was uploaded meanwhile
-pub undone_at_once : (old new : Host) (before : List Entry) (command : Command) (site : SiteName) → IsLegal old.uploads old.entries → Grows old new
-    → old.entries ≡ before ++ Change command ∷ [] → new.entries ≡ old.entries ++ Undo site (length before + 1) ∷ []
+pub undone_at_once : (old new : Host) (before : Log) (command : Command) (site : SiteName) → IsLegal old.uploads old.entries → Grows old new
+    → old.entries ≡ with_entry before (Change command) → new.entries ≡ with_entry old.entries (Undo site (next_number before))
     → state_of new ≡ state_of (with_log old before)
 undone_at_once old new before command site legal grown is undone =
-    let there : IsLegal old.uploads (before ++ Change command ∷ []) = subst (IsLegal old.uploads) is legal in
-    let first = ends old.uploads [] before (Change command) there in
-    let grows = history-grows old.uploads new.uploads (before ++ Change command ∷ []) grown.uploads there in
-    let same = (history-grows old.uploads new.uploads before grown.uploads first.0).1 in
-    let ran = is_accepted old.uploads (run old.uploads before) (length before + 1) command first.1 in
+    let there : IsLegal old.uploads (with_entry before (Change command)) = subst (IsLegal old.uploads) is legal in
+    let first = ends old.uploads (with_only before []) before.entries (Change command) there.1 in
+    let grows = history-grows old.uploads new.uploads (with_entry before (Change command)) grown.uploads there in
+    let same = (history-grows old.uploads new.uploads before grown.uploads (there.0, first.0)).1 in
+    let ran = is_accepted old.uploads (run old.uploads before) (next_number before) command first.1 in
     ap (λ o. unwrap_or o map.empty) (
-    ap (run new.uploads) (undone ∙ ap (λ es. es ++ Undo site (length before + 1) ∷ []) is)
-    ∙ run-undone_at_once new.uploads before command site (length before + 1) grows.0 refl
+    ap (run new.uploads) (undone ∙ ap (λ (l : Log). with_entry l (Undo site (next_number before))) is)
+    ∙ run-undone_at_once new.uploads before command site (next_number before) grows.0 refl
     ∙ same ran.0 ran.1 ∙ sym (ran.1)
     )

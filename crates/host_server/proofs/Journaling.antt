@@ -1,7 +1,9 @@
 -- A journal keeps up with its host, call by call.
-use Rattle.std.proofs.Common.{◌≡◌, ◌≢◌, ◌⊎◌, inl, inr, List, [], ◌∷◌, ◌++◌, length, false, Option, Some, None, Result, Ok, Err, refl, sym, ap, subst, ◌∙◌}
-use Rattle.std.proofs.lemmas.List.{append-nil, append_assoc}
+use Rattle.std.proofs.Common.{◌≡◌, ◌≢◌, ◌⊎◌, inl, inr, List, [], ◌∷◌, ◌++◌, false, Option, Some, None, Result, Ok, Err, refl, sym, ap, subst, ◌∙◌}
 use Rattle.change_journal.specs.Held.{Keeps}
+use Rattle.change_log.proofs.Longer.{with_both, with_none}
+use Rattle.change_log.specs.Logs as logs
+use Rattle.change_log.specs.Logs.{Log, with_entries}
 use Rattle.site_change.specs.declared.entries.Entry.{Entry}
 use Rattle.host_api.specs.declared.refusals.Refusal.{Refusal}
 use Rattle.host_api.specs.declared.refusals.Refusal.TheVariants as reason
@@ -12,10 +14,6 @@ use Rattle.host_server.specs.Entries.{IsEntered, stop_of}
 use Rattle.host_server.specs.Hosts.{Host, with_entry}
 use Rattle.host_disk.specs.declared.disks.Disk.{Ghosts}
 use Rattle.host_server.specs.Journals.{Agrees, BreaksOff, IsJournaled, KeepsUp, Puts, PutsInPart, is_broken}
-
-pub no_entries : (entries : List Entry) → length entries ≡ 0 → entries ≡ []
-no_entries [] none = refl
-no_entries (entry ∷ entries) none = absurd (cc none)
 
 module _ {D : Type 0} (disk : Ghosts D) where
   -- ---- puts
@@ -29,13 +27,13 @@ module _ {D : Type 0} (disk : Ghosts D) where
   puts_then None (entry ∷ first) more mid new put after = puts_none more new (subst (λ (j : Option (Keeps D)). Puts disk j more new) put after)
   puts_then (Some old) (entry ∷ first) more mid new (next, put, rest) after = (next, put, puts_then (Some next) first more mid new rest after)
 
-  puts_entries : (old : Option (Keeps D)) (more : List Entry) (new : Option (Keeps D)) (entries : List Entry) → Agrees old entries → Puts disk old more new → Agrees new (entries ++ more)
-  puts_entries old [] new entries agrees is =
-      subst (λ (j : Option (Keeps D)). Agrees j (entries ++ [])) (sym is) (subst (Agrees old) (sym (append-nil entries)) agrees)
-  puts_entries None (entry ∷ more) new entries agrees is = subst (λ (j : Option (Keeps D)). Agrees j (entries ++ entry ∷ more)) (sym is) refl
-  puts_entries (Some old) (entry ∷ more) new entries agrees (mid, put, rest) =
-      subst (Agrees new) (append_assoc entries (entry ∷ []) more)
-      (puts_entries (Some mid) more new (entries ++ entry ∷ []) (put.entries ∙ ap (λ (es : List Entry). es ++ entry ∷ []) agrees) rest)
+  puts_entries : (old : Option (Keeps D)) (more : List Entry) (new : Option (Keeps D)) (log : Log) → Agrees old log → Puts disk old more new → Agrees new (with_entries log more)
+  puts_entries old [] new log agrees is =
+      subst (λ (j : Option (Keeps D)). Agrees j (with_entries log [])) (sym is) (subst (Agrees old) (sym (with_none log)) agrees)
+  puts_entries None (entry ∷ more) new log agrees is = subst (λ (j : Option (Keeps D)). Agrees j (with_entries log (entry ∷ more))) (sym is) refl
+  puts_entries (Some old) (entry ∷ more) new log agrees (mid, put, rest) =
+      subst (Agrees new) (with_both log (entry ∷ []) more)
+      (puts_entries (Some mid) more new (logs.with_entry log entry) (put.entries ∙ ap (λ (l : Log). logs.with_entry l entry) agrees) rest)
 
   pub puts_whole : (old : Option (Keeps D)) (more : List Entry) (new : Option (Keeps D)) → is_broken old ≡ false → Puts disk old more new → is_broken new ≡ false
   puts_whole old [] new whole is = ap is_broken is ∙ whole
@@ -46,22 +44,22 @@ module _ {D : Type 0} (disk : Ghosts D) where
 
   -- it gets no entry
   pub keeps_entries : (host new : Host) (journal next : Option (Keeps D)) → new.entries ≡ host.entries → next ≡ journal → KeepsUp disk host journal new next
-  keeps_entries host new journal next is same = record { more = []; longer = is ∙ sym (append-nil host.entries); put = same }
+  keeps_entries host new journal next is same = record { more = []; longer = is ∙ sym (with_none host.entries); put = same }
 
   pub keeps_same : (host new : Host) (journal next : Option (Keeps D)) → new ≡ host → next ≡ journal → KeepsUp disk host journal new next
-  keeps_same host new journal next is same = record { more = []; longer = ap (λ (h : Host). h.entries) is ∙ sym (append-nil host.entries); put = same }
+  keeps_same host new journal next is same = record { more = []; longer = ap (λ (h : Host). h.entries) is ∙ sym (with_none host.entries); put = same }
 
   pub keeps_then : (a b c : Host) (j k l : Option (Keeps D)) → KeepsUp disk a j b k → KeepsUp disk b k c l → KeepsUp disk a j c l
   keeps_then a b c j k l ab bc = record {
     more = ab.more ++ bc.more;
-    longer = bc.longer ∙ ap (λ (es : List Entry). es ++ bc.more) ab.longer ∙ append_assoc a.entries ab.more bc.more;
+    longer = bc.longer ∙ ap (λ (l : Log). with_entries l bc.more) ab.longer ∙ with_both a.entries ab.more bc.more;
     put = puts_then j ab.more bc.more k l ab.put bc.put;
   }
 
   pub breaks_then : (a b c : Host) (j k l : Option (Keeps D)) (missed : Entry) → KeepsUp disk a j b k → BreaksOff disk b k missed c l → BreaksOff disk a j missed c l
   breaks_then a b c j k l missed ab bc = record {
     more = ab.more ++ bc.more;
-    longer = bc.longer ∙ ap (λ (es : List Entry). es ++ bc.more) ab.longer ∙ append_assoc a.entries ab.more bc.more;
+    longer = bc.longer ∙ ap (λ (l : Log). with_entries l bc.more) ab.longer ∙ with_both a.entries ab.more bc.more;
     put = record {
       mid = bc.put.mid;
       put = puts_then j ab.more bc.more k (Some bc.put.mid) ab.put bc.put.put;
@@ -112,7 +110,7 @@ module _ {D : Type 0} (disk : Ghosts D) where
   pub breaks_at : (entry : Entry) (old new : Host) (journal next : Option (Keeps D)) → new ≡ old → PutsInPart disk journal [] entry next
       → BreaksOff disk old journal entry new next
   breaks_at entry old new journal next same put =
-      record { more = []; longer = ap (λ (h : Host). h.entries) same ∙ sym (append-nil old.entries); put = put }
+      record { more = []; longer = ap (λ (h : Host). h.entries) same ∙ sym (with_none old.entries); put = put }
 
   of_error : (A B : Type 0) (e : EntryError) (entry : Entry) (old new : Host) (journal next : Option (Keeps D)) → new ≡ old → IsEntered {A = A} disk (Err e) entry journal next
       → IsJournaled {A = B} disk entry (Err (told_stop (stop_of e))) old journal new next

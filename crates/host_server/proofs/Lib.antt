@@ -1,6 +1,5 @@
 pub mod Journaling
 pub mod Committing
-pub mod Entering
 mod KeptByReads
 mod StoredReads
 mod HonestReads

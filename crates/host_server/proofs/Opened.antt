@@ -3,7 +3,6 @@ use Rattle.std.proofs.Common.{◌≡◌, ◌⊎◌, ◌∙◌, inl, inr, ℕ, �
 use Rattle.blob_store.specs.Calls.{Call}
 use Rattle.change_journal.specs.Held.{Keeps}
 use Rattle.change_journal.specs.Texts.{LeavesNext}
-use Rattle.change_log.specs.Logs.{Log}
 use Rattle.chunk_group.specs.Cached.{CachedShelf}
 use Rattle.found_host.specs.Openings as openings
 use Rattle.found_host.specs.Openings.{HadJournal, HasFiles, IsNoRecordFault, IsOpenFault}
@@ -44,12 +43,12 @@ module _ {S D : Type 0} {disk : Ghosts D} (first second : D) (shelf : S) (found 
       subst (λ (why : OpenFault). IsOpenFault disk did first second shelf limit why stop.first stop.second stop.shelf) (sym of.fault)
       (inr (found.journal, is.has_journal, of.first, of.second, inr (found.store.known, files)))
 
-  pub kept : (had : Log) (result : Result (Server S D disk) (NotOpened S D)) → IsMade result → found.journal.entries ≡ had
-      → MatchResult result (λ server. server.house.entries ≡ had) (λ stop. IsNoRecordFault stop.fault)
-  kept had (Ok server) of is = ap (λ (h : Host). h.entries) of.house ∙ is
+  pub kept : (had : List Entry) (result : Result (Server S D disk) (NotOpened S D)) → IsMade result → found.journal.entries.entries ≡ had
+      → MatchResult result (λ server. server.house.entries.entries ≡ had) (λ stop. IsNoRecordFault stop.fault)
+  kept had (Ok server) of is = ap (λ (h : Host). h.entries.entries) of.house ∙ is
   kept had (Err stop) of is = subst IsNoRecordFault (sym of.fault) tt
 
-  pub any_moment : (order : Order) (had : Log) (next : Entry) (result : Result (Server S D disk) (NotOpened S D)) → IsMade result
+  pub any_moment : (order : Order) (had : List Entry) (next : Entry) (result : Result (Server S D disk) (NotOpened S D)) → IsMade result
       → LeavesNext disk.moment disk.left_since order had next first second found.journal.first found.journal.second
       → MatchResult result
       (λ server. (journal : Keeps D) → server.journal ≡ Some journal → LeavesNext disk.moment disk.left_since order had next first second journal.first journal.second)

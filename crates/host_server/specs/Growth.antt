@@ -1,7 +1,6 @@
 -- What stays of a host: by nothing, step by step, and by each call of its server.
 use Rattle.std.specs.Prelude.{◌≡◌, ℕ, List, [], ◌∷◌, ◌++◌, true, false, cond, Option, Some, None, Result, Ok, Err, IsTrue, refl}
 use Rattle.std.proofs.Common.{inl, inr, ap, sym, subst, ◌∙◌}
-use Rattle.std.proofs.lemmas.List.{append-nil, append_assoc}
 use Rattle.std.specs.declared.alloc.AllocError.{AllocError}
 use Rattle.host_names.specs.declared.digests.Digest.{Digest}
 use Rattle.host_names.specs.declared.names.SiteName.{SiteName}
@@ -10,6 +9,8 @@ use Rattle.site_change.proofs.MoreUploads.{IsWithin-itself, IsWithin-trans, kept
 use Rattle.site_change.specs.declared.commands.Command.{Command}
 use Rattle.site_change.specs.declared.commands.Command.TheVariants.{Publish}
 use Rattle.site_change.specs.declared.refusals.ChangeRefusal.{ChangeRefusal}
+use Rattle.change_log.proofs.Longer.{with_both, with_none}
+use Rattle.change_log.specs.Logs.{Log, with_entries}
 use Rattle.change_undo.specs.Histories.{may_take_memory}
 use Rattle.site_change.specs.declared.entries.Entry.{Entry}
 use Rattle.site_change.specs.declared.entries.Entry.TheVariants.{Change, Undo}
@@ -35,13 +36,13 @@ use Rattle.host_server.specs.declared.servers.Server.{Server}
 -- ---- hosts
 
 pub itself : (host : Host) → Grows host host
-itself host = record { same_limit = refl; more = []; longer = sym (append-nil host.entries); uploads = IsWithin-itself host.uploads }
+itself host = record { same_limit = refl; more = []; longer = sym (with_none host.entries); uploads = IsWithin-itself host.uploads }
 
 pub grows_then : (a b c : Host) → Grows a b → Grows b c → Grows a c
 grows_then a b c ab bc = record {
   same_limit = bc.same_limit ∙ ab.same_limit;
   more = ab.more ++ bc.more;
-  longer = bc.longer ∙ ap (λ es. es ++ bc.more) ab.longer ∙ append_assoc a.entries ab.more bc.more;
+  longer = bc.longer ∙ ap (λ (l : Log). with_entries l bc.more) ab.longer ∙ with_both a.entries ab.more bc.more;
   uploads = IsWithin-trans a.uploads b.uploads c.uploads ab.uploads bc.uploads;
 }
 
@@ -54,7 +55,7 @@ grows_entry old new entry is =
 
 pub grows_upload : (old new : Host) (bytes : List ℕ) → new ≡ with_upload old bytes → Grows old new
 grows_upload old new bytes is =
-    subst (Grows old) (sym is) (record { same_limit = refl; more = []; longer = sym (append-nil old.entries); uploads = kept-with_file old.uploads bytes })
+    subst (Grows old) (sym is) (record { same_limit = refl; more = []; longer = sym (with_none old.entries); uploads = kept-with_file old.uploads bytes })
 
 unless_refused_grows : (host : Host) (refusal : Option ChangeRefusal) (out : Outcome) → Grows host out.host → Grows host (unless_refused host refusal out).host
 unless_refused_grows host None out grows = grows

@@ -16,7 +16,7 @@ pub record Host : Type 0 where
   pub entries : logs.Log
   pub uploads : Contents
 
--- the state: what the changes that no undo names give, from nothing
+-- the state: what the changes that no undo names give, from the base
 abbrev pub state_of : Host → State
 state_of host = unwrap_or (run host.uploads host.entries) map.empty
 

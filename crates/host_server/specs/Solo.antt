@@ -9,6 +9,7 @@ use Rattle.http_wire.specs.Sending.{AppendsFront}
 use Rattle.http_wire.specs.Timing.{Ran}
 use Rattle.http_wire.specs.declared.duplexes.Duplex as duplexes
 use Rattle.blob_store.specs.Calls.{Call}
+use Rattle.change_log.specs.Logs.{empty_log}
 use Rattle.blob_store.specs.Shelves.{Does, found_in}
 use Rattle.blob_store.specs.declared.mem_shelf.MemShelf.{MemShelf}
 use Rattle.blob_store.specs.declared.shelves.Shelf as shelves
@@ -75,7 +76,7 @@ pub record IsServed {H X : Type 0} (answers : Answering H) (duplex : duplexes.Gh
 -- a server without entries, files and a journal, which may have as many entries as any, whose shelf is in memory, and whose cache has
 -- nothing yet
 pub record IsEmpty {disk : Ghosts MemDisk} (server : Server MemShelf MemDisk disk) : Type 0 where
-  pub host : server.house ≡ record { limit = 1000000; entries = []; uploads = map.empty }
+  pub host : server.house ≡ record { limit = 1000000; entries = empty_log; uploads = map.empty }
   pub journal : server.journal ≡ None
   pub shelf : (name : ShelfName) → found_in server.files.shelf name ≡ None
   pub cache : server.files.cache ≡ empty 67108864

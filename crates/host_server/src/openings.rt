@@ -1,10 +1,9 @@
 //! Openings: a server of what is found in two slots and on a shelf.
-ghost use Rattle.std.specs.Prelude.{◌≡◌, ◌⊎◌, ◌<◌, ◌≤◌, ℕ, IfErr, IfOk, IsTrue, List, MatchResult, Some};
+ghost use Rattle.std.specs.Prelude.{◌≡◌, ◌⊎◌, ◌<◌, ◌≤◌, ℕ, IfErr, IfOk, IsTrue, List, MatchResult, Some, length};
 ghost use Rattle.record_file.specs.Failures.{MayFailReading};
 ghost use Rattle.record_file.specs.Pairs.{AreForeign, AreRefused, Order, ReadsRecord};
 ghost use Rattle.change_journal.specs.Held.{Keeps};
 ghost use Rattle.change_journal.specs.Texts.{HoldsEntries, IsText, LeavesNext, MayHoldNext};
-ghost use Rattle.change_log.specs.Logs as logs;
 ghost use Rattle.site_change.specs.declared.entries.Entry.{Entry as Line};
 ghost use Rattle.found_host.specs.Openings.{HadJournal, IsNoRecordFault, IsOpenFault};
 ghost use Rattle.found_host.specs.declared.faults.OpenFault.TheVariants.{BadHeader, BlobsDevice, JournalDevice, OutOfMemory};
@@ -51,10 +50,10 @@ impl<S: Shelf, D: Disk> Server<S, D> {
         ensures opened { IfOk result (λ server. IsOpened S.did first second shelf limit server) }
         ensures fault { IfErr result (λ stop.
             IsOpenFault D.Disk S.did first second shelf limit stop.fault stop.first stop.second stop.shelf) }
-        ensures kept { IsTrue D.is_modelled → (had : logs.Log) → logs.last_number had ≤ 1000000
+        ensures kept { IsTrue D.is_modelled → (had : List Line) → length had ≤ 1000000
             → HoldsEntries had (D.seen first) (D.seen second)
-            → MatchResult result (λ server. server.house.entries ≡ had) (λ stop. IsNoRecordFault stop.fault) }
-        ensures any_moment { IsTrue D.is_modelled → (order : Order) (had : logs.Log) (next : Line)
+            → MatchResult result (λ server. server.house.entries.entries ≡ had) (λ stop. IsNoRecordFault stop.fault) }
+        ensures any_moment { IsTrue D.is_modelled → (order : Order) (had : List Line) (next : Line)
             → MayHoldNext order had next (D.may_leave first) (D.may_leave second)
             → MatchResult result (λ server. (journal : Keeps _) → server.journal ≡ Some journal
             → LeavesNext D.moment D.left_since order had next first second journal.first journal.second) (λ stop.

@@ -1,6 +1,9 @@
 //! A host, its journal, and the shelf that its files are on.
-ghost use Rattle.std.specs.Prelude.{◌≡◌, ◌≤◌, [], None, IfOk};
+ghost use Rattle.std.specs.Prelude.{◌≡◌, ◌≤◌, None, IfOk};
+ghost use Rattle.std.specs.Coded.{Coded-set};
 ghost use Rattle.std.specs.FinMap as map;
+ghost use Rattle.change_log.specs.Logs.{empty_log};
+ghost use Rattle.change_log.specs.contracts.logs.Log as logs;
 ghost use Rattle.chunk_lru.specs.Caches.{empty};
 ghost use Rattle.host_server.specs.Journals.{Agrees, is_broken};
 
@@ -20,7 +23,7 @@ pub struct Server<S, D: Disk> {
     pub(crate) house: SoloHouse,
     pub(crate) journal: Option<Journal<D>>,
     pub(crate) files: NodeFiles<S>,
-    pub ghost agrees: { Agrees journal house.entries },
+    pub ghost agrees: { Agrees journal house.entries } by { Coded-set logs.the_row.coded _ _ },
 }
 
 impl<S: Shelf + Drop, D: Disk> Server<S, D> {
@@ -30,7 +33,7 @@ impl<S: Shelf + Drop, D: Disk> Server<S, D> {
         requires some { 1 ≤ limit }
         requires bounded { limit ≤ 1000000 }
         ensures house { IfOk result (λ server.
-            server.house ≡ record { limit = limit; entries = []; uploads = map.empty }) }
+            server.house ≡ record { limit = limit; entries = empty_log; uploads = map.empty }) }
         ensures journal { IfOk result (λ server. server.journal ≡ None) }
         ensures shelf { IfOk result (λ server. server.files.shelf ≡ shelf) }
         ensures cache { IfOk result (λ server. server.files.cache ≡ empty 67108864) }

@@ -1,8 +1,7 @@
 //! One boot: a journal is opened, and entries are put into it.
 ghost use Rattle.std.specs.Prelude.{◌≡◌, ◌+◌, ◌<◌, ◌≤◌, IfSome, IsNone, IsTrue, List, MatchOption, false, length, ℕ};
 ghost use Rattle.change_journal.specs.Texts.{AllStored, MayHoldNext};
-ghost use Rattle.change_log.specs.Logs as logs;
-ghost use Rattle.change_log.specs.Logs.{last_number};
+ghost use Rattle.change_log.specs.Logs.{IsWhole, last_number};
 ghost use Rattle.site_change.specs.declared.entries.Entry as entry;
 ghost use Rattle.record_file.specs.Pairs.{Order};
 ghost use Rattle.journal_stops.specs.Boots.{HasNext, LeavesPuts};
@@ -31,15 +30,16 @@ pub fn open_and_put<D: Disk>(
     second: D,
     puts: VecDeque<Prepared>,
 ) -> Boot<D>
-    ensures unopened { IsTrue D.is_modelled → (order : Order) (had : logs.Log) (next : entry.Entry)
+    ensures unopened { IsTrue D.is_modelled → (order : Order) (had : List entry.Entry) (next : entry.Entry)
         → MayHoldNext order had next (D.may_leave first) (D.may_leave second) → IsNone result.found
         → (result.acknowledged ≡ 0)
         × MayHoldNext order had next (D.may_leave result.first) (D.may_leave result.second) }
-    ensures found { IsTrue D.is_modelled → (order : Order) (had : logs.Log) (next : entry.Entry)
-        → last_number had < 1000000 → MayHoldNext order had next (D.may_leave first) (D.may_leave second)
-        → IfSome result.found (λ log. HasNext had next log) }
-    ensures put { IsTrue D.is_modelled → IfSome result.found (λ log. last_number log + length puts.items ≤ 1000000
-        → LeavesPuts (D.may_leave result.first) (D.may_leave result.second) log puts.items result.acknowledged) }
+    ensures found { IsTrue D.is_modelled → (order : Order) (had : List entry.Entry) (next : entry.Entry)
+        → length had < 1000000 → MayHoldNext order had next (D.may_leave first) (D.may_leave second)
+        → IfSome result.found (λ log. HasNext had next log.entries) }
+    ensures put { IsTrue D.is_modelled → IfSome result.found (λ log. length log.entries + length puts.items ≤ 1000000
+        → LeavesPuts (D.may_leave result.first) (D.may_leave result.second) log.entries puts.items
+        result.acknowledged) }
 {
     laws::slots_hold_an_entry_whose_gate_is_open();
     match Journal::open(alloc, first, second) {
@@ -56,11 +56,14 @@ pub fn open_and_put<D: Disk>(
 /// Puts entries after those that a journal was found to have, if there are numbers left for all of them.
 fn put_after<D: Disk>(mut journal: Journal<D>, log: Log, puts: VecDeque<Prepared>) -> Boot<D>
     requires puts { journal.entries ≡ log }
+    requires all { IsWhole log }
     requires whole { journal.broken ≡ false }
-    requires stored { IsTrue D.is_modelled → AllStored (D.may_leave journal.first) (D.may_leave journal.second) log }
+    requires stored { IsTrue D.is_modelled
+        → AllStored (D.may_leave journal.first) (D.may_leave journal.second) log.entries }
     ensures found { result.found ≡ Some log }
-    ensures put { IsTrue D.is_modelled → last_number log + length puts.items ≤ 1000000
-        → LeavesPuts (D.may_leave result.first) (D.may_leave result.second) log puts.items result.acknowledged }
+    ensures put { IsTrue D.is_modelled → length log.entries + length puts.items ≤ 1000000
+        → LeavesPuts (D.may_leave result.first) (D.may_leave result.second) log.entries puts.items
+        result.acknowledged }
 {
     let mut acknowledged = 0;
     if log.len() <= 1_000_000 && puts.len() as u64 <= 1_000_000 - log.len() {
@@ -79,11 +82,12 @@ fn put_after<D: Disk>(mut journal: Journal<D>, log: Log, puts: VecDeque<Prepared
 fn put_all<D: Disk>(journal: &mut Journal<D>, mut puts: VecDeque<Prepared>) -> u64
     requires whole { journal.old.broken ≡ false }
     requires stored { IsTrue D.is_modelled
-        → AllStored (D.may_leave journal.old.first) (D.may_leave journal.old.second) journal.old.entries }
+        → AllStored (D.may_leave journal.old.first) (D.may_leave journal.old.second)
+        journal.old.entries.entries }
     requires few { last_number journal.old.entries + length puts.items ≤ 1000000 }
     ensures { IsTrue D.is_modelled
-        → LeavesPuts (D.may_leave journal.new.first) (D.may_leave journal.new.second) journal.old.entries puts.items
-        result }
+        → LeavesPuts (D.may_leave journal.new.first) (D.may_leave journal.new.second)
+        journal.old.entries.entries puts.items result }
 {
     let mut acknowledged = 0;
     while let Some(prepared) = puts.pop_front() {

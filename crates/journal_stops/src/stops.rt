@@ -1,8 +1,6 @@
 //! Boots over disks in memory that stop or fail, a crash after that, and another opening.
-ghost use Rattle.std.specs.Prelude.{◌≡◌, ◌+◌, ◌<◌, ◌≤◌, IfOk, List, length, ℕ};
+ghost use Rattle.std.specs.Prelude.{◌≡◌, ◌+◌, ◌<◌, ◌≤◌, IfOk, List, length, option_map, ℕ};
 ghost use Rattle.change_journal.specs.Texts.{AllStored, HoldsEntries, MayHoldNext};
-ghost use Rattle.change_log.specs.Logs as logs;
-ghost use Rattle.change_log.specs.Logs.{last_number};
 ghost use Rattle.site_change.specs.declared.entries.Entry as entry;
 ghost use Rattle.record_file.specs.Pairs.{Order};
 ghost use Rattle.journal_stops.specs.Boots.{IsReopened};
@@ -37,12 +35,13 @@ pub fn stop_and_open(
     puts: VecDeque<Prepared>,
     byte: u8,
 ) -> Result<Reopened, OpenFault>
-    ensures opened { (order : Order) (had : logs.Log) (next : entry.Entry)
-        → last_number had + length puts.items < 1000000
+    ensures opened { (order : Order) (had : List entry.Entry) (next : entry.Entry)
+        → length had + length puts.items < 1000000
         → MayHoldNext order had next (⟦<MemDisk as Disk>⟧.may_leave first) (⟦<MemDisk as Disk>⟧.may_leave second)
-        → IfOk result (λ after. IsReopened had next puts.items after.found after.acknowledged after.opened) }
+        → IfOk result (λ after. IsReopened had next puts.items (option_map (λ log. log.entries) after.found)
+        after.acknowledged after.opened.entries) }
     ensures stored { IfOk result (λ after. AllStored (⟦<MemDisk as Disk>⟧.may_leave after.first)
-        (⟦<MemDisk as Disk>⟧.may_leave after.second) after.opened) }
+        (⟦<MemDisk as Disk>⟧.may_leave after.second) after.opened.entries) }
 {
     laws::slots_hold_an_entry_whose_gate_is_open();
     let Boot {
@@ -75,12 +74,13 @@ pub fn fail_and_open(
     puts: VecDeque<Prepared>,
     byte: u8,
 ) -> Result<Reopened, OpenFault>
-    ensures opened { (order : Order) (had : logs.Log) (next : entry.Entry)
-        → last_number had + length puts.items < 1000000
+    ensures opened { (order : Order) (had : List entry.Entry) (next : entry.Entry)
+        → length had + length puts.items < 1000000
         → MayHoldNext order had next (⟦<MemDisk as Disk>⟧.may_leave first) (⟦<MemDisk as Disk>⟧.may_leave second)
-        → IfOk result (λ after. IsReopened had next puts.items after.found after.acknowledged after.opened) }
+        → IfOk result (λ after. IsReopened had next puts.items (option_map (λ log. log.entries) after.found)
+        after.acknowledged after.opened.entries) }
     ensures stored { IfOk result (λ after. AllStored (⟦<MemDisk as Disk>⟧.may_leave after.first)
-        (⟦<MemDisk as Disk>⟧.may_leave after.second) after.opened) }
+        (⟦<MemDisk as Disk>⟧.may_leave after.second) after.opened.entries) }
 {
     laws::slots_hold_an_entry_whose_gate_is_open();
     let Boot {
@@ -116,9 +116,9 @@ fn open_images(
     ensures same { IfOk result (λ after. (after.found ≡ found) × (after.acknowledged ≡ acknowledged)) }
     ensures opened { IfOk result (λ after. (a : List ℕ) × (b : List ℕ) × ⟦<MemDisk as Disk>⟧.may_leave first a
         × ⟦<MemDisk as Disk>⟧.may_leave second b
-        × ((log : logs.Log) → last_number log ≤ 1000000 → HoldsEntries log a b → after.opened ≡ log)) }
+        × ((log : List entry.Entry) → length log ≤ 1000000 → HoldsEntries log a b → after.opened.entries ≡ log)) }
     ensures stored { IfOk result (λ after. AllStored (⟦<MemDisk as Disk>⟧.may_leave after.first)
-        (⟦<MemDisk as Disk>⟧.may_leave after.second) after.opened) }
+        (⟦<MemDisk as Disk>⟧.may_leave after.second) after.opened.entries) }
 {
     let one = first.image(alloc, byte)?;
     let other = second.image(alloc, byte)?;

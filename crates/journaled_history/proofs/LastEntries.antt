@@ -1,22 +1,11 @@
 -- The last entry of a log.
-use Rattle.std.proofs.Common.{◌≡◌, ℕ, ◌+◌, ◌-◌, ◌==◌, true, false, cond, List, [], ◌∷◌, ◌++◌, Option, Some, None, arith, length, length-append, slice_get, unwrap_or, refl, ap, subst, ◌∙◌}
+use Rattle.std.proofs.Common.{◌≡◌, ℕ, Option, Some, unwrap_or, ap, subst, ◌∙◌}
 use Rattle.site_change.specs.declared.entries.Entry.{Entry}
-use Rattle.change_log.specs.Logs.{entry_at, with_entry}
-
-at_end : (entries : List Entry) (entry : Entry) → slice_get (entries ++ entry ∷ []) (length entries) ≡ Some entry
-at_end [] entry = refl
-at_end (other ∷ entries) entry = at_end entries entry
-
--- an entry has the number that is the last then
-at_last : (log : List Entry) (k : ℕ) (entry found : Entry) → k ≡ length log + 1 → Some found ≡ entry_at (with_entry log entry) k → found ≡ entry
-at_last log k entry found is there =
-    let entries = with_entry log entry in
-    let got : Some found ≡ slice_get entries (k - 1) =
-    elim (k == 0) as (λ t. Some found ≡ cond t None (slice_get entries (k - 1)) → Some found ≡ slice_get entries (k - 1)) [ true ↦ λ h. cc h | false ↦ λ h. h ] there in
-    let same : k - 1 ≡ length log = omega (arith, is) in
-    ap (λ (e : Option Entry). unwrap_or e found) (got ∙ ap (slice_get entries) same ∙ at_end log entry)
+use Rattle.change_log.specs.Logs.{Log, entry_at, last_number, with_entry}
+use Rattle.change_log.proofs.Longer.{entry_at-with_entry, last_number-with_entry}
 
 -- what stands in a log at its last number is the entry that was made last
-pub last_of : (log next : List Entry) (entry found : Entry) (k : ℕ) → next ≡ with_entry log entry → k ≡ length next → Some found ≡ entry_at next k → found ≡ entry
+pub last_of : (log next : Log) (entry found : Entry) (k : ℕ) → next ≡ with_entry log entry → k ≡ last_number next → Some found ≡ entry_at next k → found ≡ entry
 last_of log next entry found k longer is there =
-    at_last log k entry found (is ∙ ap length longer ∙ length-append log (entry ∷ [])) (subst (λ (es : List Entry). Some found ≡ entry_at es k) longer there)
+    let at : Some found ≡ entry_at (with_entry log entry) k = subst (λ (l : Log). Some found ≡ entry_at l k) longer there in
+    ap (λ (e : Option Entry). unwrap_or e found) (at ∙ entry_at-with_entry log entry k (is ∙ ap last_number longer ∙ last_number-with_entry log entry))

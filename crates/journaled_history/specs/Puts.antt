@@ -15,8 +15,8 @@ pub record IsPut {D : Type 0} (disk : Ghosts D) (old : Keeps D) (entry : Entry) 
   pub was_whole : old.broken ≡ false
   pub entries : new.entries ≡ logs.with_entry old.entries entry
   pub whole : new.broken ≡ false
-  pub stored : IsTrue disk.is_modelled → AllStored (disk.may_leave new.first) (disk.may_leave new.second) new.entries
-  pub moments : IsTrue disk.is_modelled → (order : Order) × LeavesNext disk.moment disk.left_since order old.entries entry old.first old.second new.first new.second
+  pub stored : IsTrue disk.is_modelled → AllStored (disk.may_leave new.first) (disk.may_leave new.second) new.entries.entries
+  pub moments : IsTrue disk.is_modelled → (order : Order) × LeavesNext disk.moment disk.left_since order old.entries.entries entry old.first old.second new.first new.second
   pub cause : (disk.faults new.first ≡ disk.faults old.first) × (disk.faults new.second ≡ disk.faults old.second)
 
 -- a device failed while an entry was put: it is none of the journal's, of which nothing more is put; the disks may hold it or not
@@ -24,5 +24,5 @@ pub record IsPutInVain {D : Type 0} (disk : Ghosts D) (old : Keeps D) (entry : E
   pub was_whole : old.broken ≡ false
   pub entries : new.entries ≡ old.entries
   pub broken : new.broken ≡ true
-  pub moments : IsTrue disk.is_modelled → (order : Order) × LeavesNext disk.moment disk.left_since order old.entries entry old.first old.second new.first new.second
+  pub moments : IsTrue disk.is_modelled → (order : Order) × LeavesNext disk.moment disk.left_since order old.entries.entries entry old.first old.second new.first new.second
   pub cause : BreaksEither Device (disk.faults old.first) (disk.faults old.second) (disk.faults new.first) (disk.faults new.second)

@@ -1,5 +1,6 @@
 -- The rule of a list, and what its steps tell.
 use Rattle.std.specs.Prelude.{ℕ, ◌≡◌, ◌+◌, ◌<◌, true, List, [], ◌∷◌, ◌++◌, length, Option, Some, None}
+use Rattle.seen_lists.specs.Fronts.{Rises}
 use Rattle.logbook.specs.Pages.{Cell, cell, Step, View, Book, Named, Nib, may_make, may_write}
 
 -- an entry of the log of a list: the item that was pushed, or none for the beginning, and the key of the pen that may push the next one
@@ -50,9 +51,9 @@ Pushes s v found w = w.0 ≡ v.0 ++ s.ask ∷ []
 abbrev pub Looks : {E : Type 0} → Step (Link E) → View (Link E) ℕ → ℕ → View (Link E) ℕ → Type 0
 Looks s v found w = (length w.0 ≡ s.old) × (w.1.0 ≡ v.1.0)
 
--- What the one owner of a list has: the pen that may push the next item; the number of entries, and that of the items, with those found
-pub record IsList {E : Type 0} (book : Book) (found : List E) (entries count : ℕ) (head : Named) (pen_book : Book) (nib : Nib) (seen_book : Book) (log : List (Link E)) : Type 0 where
-  pub counted : count ≡ length (found ++ items_of log)
+-- What the one owner of a list has: the pen that may push the next item; the number of entries, and that of the items
+pub record IsOwned {E : Type 0} (book : Book) (entries count : ℕ) (head : Named) (pen_book : Book) (nib : Nib) (seen_book : Book) (log : List (Link E)) : Type 0 where
+  pub counted : count ≡ length (items_of log)
   pub entered : entries ≡ length log
   pub begun : length log ≡ 1 + length (items_of log)
   pub head_is : head ≡ head_of book
@@ -60,3 +61,9 @@ pub record IsList {E : Type 0} (book : Book) (found : List E) (entries count : �
   pub seen_is : seen_book ≡ book
   pub right : nib.right ≡ may_write
   pub next : next_of log ≡ Some nib.key
+
+-- What a front has: how many items it saw, each newer than the one before
+pub record IsFront {E : Type 0} (is_later : E → E → Type 0) (book : Book) (found : E) (count : ℕ) (seen_book : Book) (log : List (Link E)) : Type 0 where
+  pub counted : count ≡ length (items_of log)
+  pub seen_is : seen_book ≡ book
+  pub rises : Rises is_later found (items_of log)

@@ -1,42 +1,42 @@
 //! Fronts: what was seen of a list.
-ghost use Rattle.std.specs.Prelude.{◌≡◌, ◌++◌, ◌≤◌, length, MatchBool, nat_le};
-ghost use mathlib.Core.List.{IsPrefix};
-ghost use Rattle.seen_lists.specs.Fronts.{longer_of};
-ghost use Rattle.seen_lists.specs.Rules.{items_of};
+ghost use Rattle.std.specs.Prelude.{◌≡◌, MatchBool, length};
+ghost use Rattle.growing.specs.Orders.{IsLaterOf, IsNewer};
+ghost use Rattle.seen_lists.specs.Fronts.{latest};
+ghost use Rattle.seen_lists.specs.Rules.{IsFront, items_of};
 
 use crate::names::ListName;
 use crate::rules::{Law, Link};
+use growing::Growing;
 use logbook::Seen;
 use std::marker::{Model, PhantomData};
 
-/// A front of a list: its first items, as they were seen. It has no items at run time, only how many there are. Contracts see the items.
+/// A front of a list: what the list was when it was seen. It has no items at run time, only how many were pushed by then. Contracts see what it was.
 ///
-/// Fronts are copied and learnt as often as one likes, by readers, receipts and owners, and the shorter of two fronts of one list is the
-/// beginning of the longer. The notes of `left_right` are no substitute: one reader uses a note up, and two notes can't be compared.
+/// Fronts are copied and learnt as often as one likes, by readers, receipts and owners. Of two fronts of one list the one after more pushes is newer. The
+/// notes of `left_right` are no substitute: one reader uses a note up, and two notes can't be compared.
 #[derive(Drop)]
-pub struct Front<E, L: ListName<E>> {
+pub struct Front<E: Growing, L: ListName<E>> {
     count: u64,
     seen: Seen<Link<E>, u64, Law>,
     of: PhantomData<L>,
 }
 
-impl<E, L: ListName<E>> Model for Front<E, L> {
-    ghost use Rattle.std.specs.Prelude.{◌≡◌, ◌++◌, List, length};
-    ghost use Rattle.seen_lists.specs.Rules.{items_of};
+impl<E: Growing, L: ListName<E>> Model for Front<E, L> {
+    ghost use Rattle.seen_lists.specs.Fronts.{latest};
+    ghost use Rattle.seen_lists.specs.Rules.{IsFront, items_of};
 
-    ghost Value = { List E };
+    ghost Value = { E };
 
-    ghost view = { λ f. L.found ++ items_of f.seen.log };
+    ghost view = { λ f. latest L.found (items_of f.seen.log) };
 
-    ghost invariant = { λ f. (f.count ≡ length (L.found ++ items_of f.seen.log)) × (f.seen.book ≡ L.book) };
+    ghost invariant = { λ f. IsFront E.is_later L.book L.found f.count f.seen.book f.seen.log };
 }
 
-impl<E, L: ListName<E>> Front<E, L> {
+impl<E: Growing, L: ListName<E>> Front<E, L> {
     /// The front of all that was seen.
     pub(crate) fn of(count: u64, seen: Seen<Link<E>, u64, Law>) -> Front<E, L>
-        requires count { count ≡ length (L.found ++ items_of seen.log) }
-        requires book { seen.book ≡ L.book }
-        ensures { result ≡ L.found ++ items_of seen.log }
+        requires { IsFront E.is_later L.book L.found count seen.book seen.log }
+        ensures { result ≡ latest L.found (items_of seen.log) }
     {
         Front {
             count,
@@ -47,17 +47,11 @@ impl<E, L: ListName<E>> Front<E, L> {
 
     /// What was seen of the log.
     pub(crate) fn seen(&self) -> &Seen<Link<E>, u64, Law>
-        ensures items { self.now ≡ L.found ++ items_of result.now.log }
-        ensures book { result.now.book ≡ L.book }
+        ensures latest { self.now ≡ latest L.found (items_of result.now.log) }
+        ensures front { IsFront E.is_later L.book L.found
+            (length (items_of result.now.log)) result.now.book result.now.log }
     {
         &self.seen
-    }
-
-    /// How many items it has.
-    pub fn len(&self) -> u64
-        ensures { result ≡ length self.now }
-    {
-        self.count
     }
 
     /// A copy.
@@ -71,40 +65,35 @@ impl<E, L: ListName<E>> Front<E, L> {
         }
     }
 
-    /// Goes over to another front, if that is no shorter, and answers whether it did. This front is a beginning of the other then.
-    pub fn follow(&mut self, other: &Front<E, L>) -> bool
-        ensures when { result ≡ nat_le (length self.old) (length other.now) }
-        ensures followed { MatchBool result (self.new ≡ other.now) (self.new ≡ self.old) }
-        ensures kept { IsPrefix self.old self.new }
+    /// Whether this front is as late as another one. Else the other is newer. If each is as late as the other, they are the same.
+    pub fn reaches(&self, other: &Front<E, L>) -> bool
+        ensures told { MatchBool result (E.is_later other.now self.now) (IsNewer E.is_later self.now other.now) }
+        ensures same { E.is_later self.now other.now → E.is_later other.now self.now → self.now ≡ other.now }
     {
-        if other.count < self.count {
-            return false;
+        let mut both = self.seen.again();
+        both.learn(&other.seen);
+        self.count >= other.count
+    }
+
+    /// Goes over to another front, if that is as late as this one, and answers whether it did.
+    pub fn follow(&mut self, other: &Front<E, L>) -> bool
+        ensures when { MatchBool result (E.is_later self.old other.now) (IsNewer E.is_later other.now self.old) }
+        ensures followed { MatchBool result (self.new ≡ other.now) (self.new ≡ self.old) }
+        ensures kept { E.is_later self.old self.new }
+    {
+        if other.reaches(self) {
+            *self = other.again();
+            return true;
         }
-        self.begins(other);
-        *self = other.again();
-        true
+        false
     }
 
     /// Learns what another front has seen.
     pub fn learn(&mut self, other: &Front<E, L>)
-        ensures longer { self.new ≡ longer_of self.old other.now }
-        ensures kept { IsPrefix self.old self.new }
-        ensures learnt { IsPrefix other.now self.new }
+        ensures later { IsLaterOf E.is_later self.old other.now self.new }
+        ensures kept { E.is_later self.old self.new }
+        ensures learnt { E.is_later other.now self.new }
     {
-        if other.count <= self.count {
-            other.begins(self);
-        } else {
-            self.begins(other);
-            *self = other.again();
-        }
-    }
-
-    /// This front is a beginning of another one that is no shorter. It does nothing.
-    pub(crate) fn begins(&self, other: &Front<E, L>)
-        requires { length self.now ≤ length other.now }
-        ensures { IsPrefix self.now other.now }
-    {
-        let mut both = self.seen.again();
-        both.learn(&other.seen);
+        self.follow(other);
     }
 }

@@ -1,25 +1,24 @@
 //! Laws of fronts, each the contract of a function that does nothing.
-ghost use Rattle.std.specs.Prelude.{◌≤◌, ◌⊎◌, length};
-ghost use mathlib.Core.List.{IsPrefix};
+ghost use Rattle.std.specs.Prelude.{◌≡◌, ◌⊎◌};
 
 use crate::fronts::Front;
 use crate::names::ListName;
+use growing::Growing;
 
-/// The shorter of two fronts of one list is the beginning of the longer.
-pub fn one_of_two_fronts_begins_the_other<E, L: ListName<E>>(one: &Front<E, L>, other: &Front<E, L>)
-    ensures shorter { length one.now ≤ length other.now → IsPrefix one.now other.now }
-    ensures either { IsPrefix one.now other.now ⊎ IsPrefix other.now one.now }
+/// Of two fronts of one list one is as late as the other. If each is, they are the same.
+pub fn one_of_two_fronts_is_later<E: Growing, L: ListName<E>>(
+    one: &Front<E, L>,
+    other: &Front<E, L>,
+)
+    ensures either { E.is_later one.now other.now ⊎ E.is_later other.now one.now }
+    ensures same { E.is_later one.now other.now → E.is_later other.now one.now → one.now ≡ other.now }
 {
-    if one.len() <= other.len() {
-        one.begins(other);
-    } else {
-        other.begins(one);
-    }
+    one.reaches(other);
 }
 
-/// Each front begins with the items that its list began with.
-pub fn each_front_begins_with_what_was_found<E, L: ListName<E>>(front: &Front<E, L>)
-    ensures { IsPrefix L.found front.now }
+/// Each front is as late as what its list began with.
+pub fn each_front_is_later_than_what_was_found<E: Growing, L: ListName<E>>(front: &Front<E, L>)
+    ensures { E.is_later L.found front.now }
 {
     front.seen();
 }

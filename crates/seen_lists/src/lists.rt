@@ -1,12 +1,14 @@
 //! Lists, each for the one owner that grows it.
-ghost use Rattle.std.specs.Prelude.{◌≡◌, ◌+◌, ◌<◌, ◌^◌, ◌++◌, ◌∷◌, [], length, Some};
-ghost use mathlib.Core.List.{IsPrefix};
+ghost use Rattle.std.specs.Prelude.{◌≡◌, ◌+◌, ◌<◌, ◌^◌, length, Some};
+ghost use Rattle.growing.specs.Orders.{IsNewer};
 ghost use Rattle.logbook.specs.Pages.{may_write};
-ghost use Rattle.seen_lists.specs.Rules.{head_of, items_of, next_of};
+ghost use Rattle.seen_lists.specs.Fronts.{latest};
+ghost use Rattle.seen_lists.specs.Rules.{IsFront, head_of, items_of, next_of};
 
 use crate::fronts::Front;
 use crate::names::ListName;
 use crate::rules::{Addition, Begin, Cut, Law, Link, Look, Nothing, Push, ink};
+use growing::Growing;
 use logbook::{Offer, Pen, Seen, Start, Word};
 use std::marker::{Model, PhantomData};
 use std::sync::Wait;
@@ -29,9 +31,8 @@ pub struct NewList<E> {
 }
 
 impl<E> Model for NewList<E> {
-    ghost use Rattle.std.specs.Prelude.{[]};
     ghost use Rattle.logbook.specs.Pages.{Book, book_coded};
-    ghost use Rattle.seen_lists.specs.Rules.{IsList};
+    ghost use Rattle.seen_lists.specs.Rules.{IsOwned};
 
     ghost Value = { Book };
 
@@ -39,10 +40,10 @@ impl<E> Model for NewList<E> {
 
     ghost view = { λ l. l.seen.book };
 
-    ghost invariant = { λ l. IsList l.seen.book [] 1 0 l.head l.pen.book l.pen.nib l.seen.book l.seen.log };
+    ghost invariant = { λ l. IsOwned l.seen.book 1 0 l.head l.pen.book l.pen.nib l.seen.book l.seen.log };
 }
 
-impl<E> NewList<E> {
+impl<E: Growing> NewList<E> {
     /// A new list.
     pub fn new<R: Wait>(rt: &R) -> NewList<E> {
         let (mut seen, mut first, _second) = Seen::open(Start::alone(), 0, 0);
@@ -57,16 +58,15 @@ impl<E> NewList<E> {
         NewList { head, pen, seen }
     }
 
-    /// The list under its name. It begins with the items that were found; `found` is how many there are.
-    pub fn named<L: ListName<E>>(self, found: u64) -> SeenList<E, L>
-        requires book { self ≡ L.book }
-        requires found { found ≡ length L.found }
-        ensures { result ≡ L.found }
+    /// The list under its name, as it was found.
+    pub fn named<L: ListName<E>>(self) -> SeenList<E, L>
+        requires { self ≡ L.book }
+        ensures { result ≡ record { times = 0; now = L.found } }
     {
         let NewList { head, pen, seen } = self;
         SeenList {
             entries: 1,
-            count: found,
+            count: 0,
             head,
             pen,
             seen,
@@ -75,10 +75,10 @@ impl<E> NewList<E> {
     }
 }
 
-/// A list that its owner alone grows. It has no items at run time, only how many there are. Contracts see the items. Whoever needs them at
-/// run time keeps them: an owner in a history, a reader in a snapshot.
+/// A list that its owner alone grows. It has no items at run time, only how many were pushed. Contracts see that, and what it is now: what was pushed last.
+/// Whoever needs this at run time keeps it: an owner in a history, a reader in a snapshot.
 #[derive(Drop)]
-pub struct SeenList<E, L: ListName<E>> {
+pub struct SeenList<E: Growing, L: ListName<E>> {
     entries: u64,
     count: u64,
     head: Word<Link<E>, u64, Law>,
@@ -87,29 +87,31 @@ pub struct SeenList<E, L: ListName<E>> {
     of: PhantomData<L>,
 }
 
-impl<E, L: ListName<E>> Model for SeenList<E, L> {
-    ghost use Rattle.std.specs.Prelude.{◌++◌, List};
-    ghost use Rattle.seen_lists.specs.Rules.{IsList, items_of};
+impl<E: Growing, L: ListName<E>> Model for SeenList<E, L> {
+    ghost use Rattle.seen_lists.specs.Fronts.{Rises, latest};
+    ghost use Rattle.seen_lists.specs.Lists.{Versions};
+    ghost use Rattle.seen_lists.specs.Rules.{IsOwned, items_of};
 
-    ghost Value = { List E };
+    ghost Value = { Versions E };
 
-    ghost view = { λ l. L.found ++ items_of l.seen.log };
+    ghost view = { λ l. record { times = l.count; now = latest L.found (items_of l.seen.log) } };
 
     ghost invariant = { λ l.
-        IsList L.book L.found l.entries l.count l.head l.pen.book l.pen.nib l.seen.book l.seen.log };
+        IsOwned L.book l.entries l.count l.head l.pen.book l.pen.nib l.seen.book l.seen.log
+        × Rises E.is_later L.found (items_of l.seen.log) };
 }
 
-impl<E, L: ListName<E>> SeenList<E, L> {
-    /// How many items it has.
+impl<E: Growing, L: ListName<E>> SeenList<E, L> {
+    /// How many items were pushed.
     pub fn len(&self) -> u64
-        ensures { result ≡ length self.now }
+        ensures { result ≡ self.now.times }
     {
         self.count
     }
 
-    /// The front of all its items.
+    /// The front of what it is now.
     pub fn front(&self) -> Front<E, L>
-        ensures { result ≡ self.now }
+        ensures { result ≡ self.now.now }
     {
         Front::of(self.count, self.seen.again())
     }
@@ -128,10 +130,11 @@ impl<E, L: ListName<E>> SeenList<E, L> {
         pen
     }
 
-    /// Pushes an item.
+    /// Pushes a newer item, which the list is then.
     pub fn push(&mut self, item: &E)
-        requires room { length self.old < 2 ^ 62 }
-        ensures { self.new ≡ self.old ++ item.now ∷ [] }
+        requires room { self.old.times < 2 ^ 62 }
+        requires newer { IsNewer E.is_later self.old.now item.now }
+        ensures { self.new ≡ record { times = self.old.times + 1; now = item.now } }
     {
         let next = self.pen();
         let mut offer: Offer<Link<E>, u64, Law, Nothing> = self
@@ -149,20 +152,20 @@ impl<E, L: ListName<E>> SeenList<E, L> {
         self.count += 1;
     }
 
-    /// Tells a front of all the items. What it had seen was a beginning of them.
+    /// Tells a front what the list is now. That is as late as what the front had seen.
     pub fn tell(&mut self, front: &mut Front<E, L>)
         ensures same { self.new ≡ self.old }
-        ensures told { front.new ≡ self.old }
-        ensures kept { IsPrefix front.old front.new }
+        ensures told { front.new ≡ self.old.now }
+        ensures kept { E.is_later front.old front.new }
     {
         self.has(front);
         *front = self.front();
     }
 
-    /// A front of the list is a beginning of it. Nothing changes.
+    /// The list is as late as each front of it. Nothing changes.
     fn has(&mut self, front: &Front<E, L>)
         ensures same { self.new ≡ self.old }
-        ensures front { IsPrefix front.now self.old }
+        ensures front { E.is_later front.now self.old.now }
     {
         let mut seen = self.seen.again();
         seen.learn(front.seen());

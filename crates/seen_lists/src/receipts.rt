@@ -1,55 +1,47 @@
-//! Receipts: snapshots of what has a list, each with the front that its items are.
-ghost use Rattle.std.specs.Prelude.{◌≡◌, IfOk, length};
+//! Receipts: snapshots of what has a list, each with the front of what the list was then.
+ghost use Rattle.std.specs.Prelude.{◌≡◌, IfOk};
 
 use crate::fronts::Front;
 use crate::names::ListName;
+use growing::Growing;
 use std::alloc::AllocError;
 use std::marker::Model;
 use std::sync::Arc;
 
-/// A snapshot of a list: the items that the list had when it was taken. For clauses alone.
+/// A snapshot of a list: what the list was when it was taken. For clauses alone.
 pub trait Listed<E> {
-    ghost use Rattle.std.specs.Prelude.{List};
-
-    ghost items: { Self → List E };
+    ghost item: { Self → E };
 }
 
-/// A snapshot, and the front of the list that had the snapshot's items. Contracts see the items.
+/// A snapshot, and the front of the list as the snapshot has it. Contracts see what the list was.
 #[derive(Drop)]
-pub struct Receipt<E, L: ListName<E>, S: Listed<E> + Drop> {
+pub struct Receipt<E: Growing, L: ListName<E>, S: Listed<E> + Drop> {
     snap: Arc<S>,
     front: Front<E, L>,
 }
 
-impl<E, L: ListName<E>, S: Listed<E> + Drop> Model for Receipt<E, L, S> {
-    ghost use Rattle.std.specs.Prelude.{◌≡◌, List};
+impl<E: Growing, L: ListName<E>, S: Listed<E> + Drop> Model for Receipt<E, L, S> {
+    ghost use Rattle.std.specs.Prelude.{◌≡◌};
 
-    ghost Value = { List E };
+    ghost Value = { E };
 
     ghost view = { λ r. r.front };
 
-    ghost invariant = { λ r. S.items r.snap.value ≡ r.front };
+    ghost invariant = { λ r. S.item r.snap.value ≡ r.front };
 }
 
-impl<E, L: ListName<E>, S: Listed<E> + Drop> Receipt<E, L, S> {
+impl<E: Growing, L: ListName<E>, S: Listed<E> + Drop> Receipt<E, L, S> {
     /// The receipt of a snapshot.
     pub fn of(snap: Arc<S>, front: Front<E, L>) -> Receipt<E, L, S>
-        requires { S.items snap.value ≡ front }
+        requires { S.item snap.value ≡ front }
         ensures { result ≡ front }
     {
         Receipt { snap, front }
     }
 
-    /// How many items the list had.
-    pub fn number(&self) -> u64
-        ensures { result ≡ length self.now }
-    {
-        self.front.len()
-    }
-
     /// The snapshot.
     pub fn snap(&self) -> &Arc<S>
-        ensures { S.items result.now.value ≡ self.now }
+        ensures { S.item result.now.value ≡ self.now }
     {
         &self.snap
     }

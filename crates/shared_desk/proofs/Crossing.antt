@@ -1,12 +1,10 @@
 -- What may go from thread to thread.
 use denote.RattleType.{RattleType}
 use denote.Param.Send.{Frees, IsSend, IsSync, sendable}
-use mathlib.Core.List.{List}
 use Rattle.std.specs.declared.sync.ledger.Ledger as ledger
 use Rattle.std.proofs.sync.Mutex.TheSendSync as mutex
 use Rattle.blob_store.specs.contracts.shelf_files.Files as files
-use Rattle.byte_view.specs.declared.blob_infos.BlobInfo.{BlobInfo}
-use Rattle.site_change.specs.declared.entries.Entry.{Entry}
+use Rattle.change_log.specs.declared.logs.Log.{Log}
 use Rattle.host_disk.specs.declared.disks.Disk as disks
 use Rattle.left_right.specs.declared.Absorb as absorb
 use Rattle.seen_lists.specs.declared.names.ListName as names
@@ -15,6 +13,7 @@ use Rattle.shared_desk.specs.contracts.desks.Desk as desks
 use Rattle.site_desk.specs.contracts.books.Book as books
 use Rattle.site_desk.specs.contracts.stocks.Stock as stocks
 use Rattle.site_desk.specs.declared.snaps.HostSnap.{HostSnap}
+use Rattle.site_desk.specs.declared.stocks.KnownFiles.{KnownFiles}
 use Rattle.site_desk.specs.contracts.snaps.HostSnap as snaps
 use Rattle.site_desk.specs.contracts.stocks.Tie as ties
 use Rattle.std.proofs.sync.Arc.TheSendSync as arc
@@ -32,10 +31,10 @@ use Rattle.site_desk.proofs.published.Published.TheSendSync as shows
 pub files_send : (S : RattleType) → IsSend S → IsSend (files.the_row S)
 files_send S send = search sendable depth 30
 
-pub stock_send : (K : RattleType) (u : names.Ghosts K.Denot BlobInfo) → IsSend K → IsSync K → IsSend (stocks.the_row K u)
+pub stock_send : (K : RattleType) (u : names.Ghosts K.Denot KnownFiles) → IsSend K → IsSync K → IsSend (stocks.the_row K u)
 stock_send K u ks ky = search (sendable, stock.the_send) depth 12
 
-pub tie_send : (K : RattleType) (u : names.Ghosts K.Denot BlobInfo) → IsSend K → IsSync K → IsSend (ties.the_row K u)
+pub tie_send : (K : RattleType) (u : names.Ghosts K.Denot KnownFiles) → IsSend K → IsSync K → IsSend (ties.the_row K u)
 tie_send K u ks ky = search (sendable, tie.the_send) depth 12
 
 pub journal_send : (D : RattleType) (d : disks.Ghosts D.Denot) → IsSend D → IsSend (journals.the_row D d)
@@ -45,8 +44,8 @@ journal_send D d ds = search sendable depth 30
 frees_anywhere : Frees ghosts ghosts.dealloc_token
 frees_anywhere = record { frees = λ a τ p. chunk-Keyless τ p }
 
-pub book_send : (N K D T R : RattleType) (l : ledger.Ghosts N.Denot) (n : names.Ghosts N.Denot Entry) (u : names.Ghosts K.Denot BlobInfo) (d : disks.Ghosts D.Denot)
-    (a : absorb.Ghosts T.Denot (Receipt Entry N.Denot HostSnap) (List Entry))
+pub book_send : (N K D T R : RattleType) (l : ledger.Ghosts N.Denot) (n : names.Ghosts N.Denot Log) (u : names.Ghosts K.Denot KnownFiles) (d : disks.Ghosts D.Denot)
+    (a : absorb.Ghosts T.Denot (Receipt Log N.Denot HostSnap) Log)
     → IsSend N → IsSync N → IsSend K → IsSync K → IsSend D → IsSend T → IsSync T → IsSend R → IsSync R → IsSend (books.the_row N K D T R l n u d a)
 book_send N K D T R l n u d a js jy ks ky ds ts ty rs ry =
     let memory : IsSend globals.the_row = search sendable in
@@ -59,8 +58,8 @@ book_send N K D T R l n u d a js jy ks ky ds ts ty rs ry =
     search sendable depth 30
 
 -- threads may share a desk
-pub desk_sync : (N K D S T R : RattleType) (l : ledger.Ghosts N.Denot) (n : names.Ghosts N.Denot Entry) (u : names.Ghosts K.Denot BlobInfo) (d : disks.Ghosts D.Denot)
-    (a : absorb.Ghosts T.Denot (Receipt Entry N.Denot HostSnap) (List Entry))
+pub desk_sync : (N K D S T R : RattleType) (l : ledger.Ghosts N.Denot) (n : names.Ghosts N.Denot Log) (u : names.Ghosts K.Denot KnownFiles) (d : disks.Ghosts D.Denot)
+    (a : absorb.Ghosts T.Denot (Receipt Log N.Denot HostSnap) Log)
     → IsSend N → IsSync N → IsSend K → IsSync K → IsSend D → IsSend S → IsSend T → IsSync T → IsSend R → IsSync R → IsSync (desks.the_row N K D S T R l n u d a)
 desk_sync N K D S T R l n u d a js jy ks ky ds ss ts ty rs ry =
     let books_too = mutex.the_sync (books.the_row N K D T R l n u d a) (book_send N K D T R l n u d a js jy ks ky ds ts ty rs ry) in

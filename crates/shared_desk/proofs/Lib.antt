@@ -1,4 +1,3 @@
-pub mod FoundFiles
 pub mod LastLacking
 mod Standing
 pub mod Crossing

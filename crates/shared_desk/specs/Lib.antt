@@ -1,5 +1,4 @@
 -- what public clauses say
-pub mod FoundFiles
 pub mod NewDesks
 pub mod Stops
 pub mod Turns

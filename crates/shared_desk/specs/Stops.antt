@@ -44,8 +44,8 @@ acknowledged (turn ∷ turns) = answered turn.answer turn.entry ++ acknowledged 
 pub record Stands {D : Type 0} (disk : Ghosts D) (log : Log) (book : Kept D) : Type 0 where
   pub entries : book.journal.entries ≡ log
   pub legal : IsLegal book.known log
-  pub whole : IsTrue disk.is_modelled → book.journal.broken ≡ false → AllStored (disk.may_leave book.journal.first) (disk.may_leave book.journal.second) log
-  pub torn : book.journal.broken ≡ true → (next : Entry) × IsLegal book.known (with_entry log next) × (IsTrue disk.is_modelled → (order : Order) × MayHoldNext order log next (disk.may_leave book.journal.first) (disk.may_leave book.journal.second))
+  pub whole : IsTrue disk.is_modelled → book.journal.broken ≡ false → AllStored (disk.may_leave book.journal.first) (disk.may_leave book.journal.second) log.entries
+  pub torn : book.journal.broken ≡ true → (next : Entry) × IsLegal book.known (with_entry log next) × (IsTrue disk.is_modelled → (order : Order) × MayHoldNext order log.entries next (disk.may_leave book.journal.first) (disk.may_leave book.journal.second))
 
 -- it is this log, or has one entry more
 abbrev pub HasAtMostOneMore : Log → Log → Type 0

@@ -6,13 +6,13 @@ ghost use Rattle.shared_desk.specs.Turns.{Commits, Undoes};
 use crate::closings::give_all_back;
 use crate::turns;
 use blob_store::Files;
-use byte_view::BlobInfo;
+use change_log::Log;
 use host_disk::Disk;
 use host_names::SiteName;
 use left_right::Absorb;
 use seen_lists::{Front, ListName};
-use site_change::{Command, Entry};
-use site_desk::{Book, DeskError, DeskName, Notice, Seat, Stock};
+use site_change::Command;
+use site_desk::{Book, DeskError, DeskName, KnownFiles, Notice, Seat, Stock};
 use std::alloc::Global;
 use std::marker::Model;
 use std::mem;
@@ -23,10 +23,10 @@ use std::sync::{Mutex, Wait};
 #[derive(Drop)]
 pub struct Desk<
     J: DeskName,
-    K: ListName<BlobInfo>,
+    K: ListName<KnownFiles>,
     D: Disk,
     S,
-    T: Absorb<Notice<J>, State = [Entry; 0]> + Drop,
+    T: Absorb<Notice<J>, State = Log> + Drop,
     R: Wait + Drop,
 > {
     pub(crate) alloc: Global,
@@ -38,10 +38,10 @@ pub struct Desk<
 
 impl<
     J: DeskName,
-    K: ListName<BlobInfo>,
+    K: ListName<KnownFiles>,
     D: Disk,
     S,
-    T: Absorb<Notice<J>, State = [Entry; 0]> + Drop,
+    T: Absorb<Notice<J>, State = Log> + Drop,
     R: Wait + Drop,
 > Model for Desk<J, K, D, S, T, R> {
     ghost use Rattle.std.specs.Prelude.{◌≡◌, ◌≤◌, ℕ};
@@ -55,10 +55,10 @@ impl<
 
 impl<
     J: DeskName,
-    K: ListName<BlobInfo>,
+    K: ListName<KnownFiles>,
     D: Disk,
     S,
-    T: Absorb<Notice<J>, State = [Entry; 0]> + Drop,
+    T: Absorb<Notice<J>, State = Log> + Drop,
     R: Wait + Drop,
 > Desk<J, K, D, S, T, R> {
     /// Commits a command as the next entry, from a seat: the entry is put into the journal, and then shown. Gives the receipt of it. A front is told the
@@ -66,7 +66,7 @@ impl<
     pub fn commit(
         &self,
         rt: &impl Wait,
-        seen: &mut Front<Entry, J>,
+        seen: &mut Front<Log, J>,
         mine: &mut Seat<J>,
         command: Command,
     ) -> Result<Notice<J>, DeskError<Notice<J>>>
@@ -84,7 +84,7 @@ impl<
     pub fn undo(
         &self,
         rt: &impl Wait,
-        seen: &mut Front<Entry, J>,
+        seen: &mut Front<Log, J>,
         mine: &mut Seat<J>,
         site: &SiteName,
         change: u64,

@@ -19,13 +19,13 @@ pub fn turns_leave_what_was_acknowledged<D: Disk>()
         → Stands D.Disk (with_entries log (acknowledged turns)) new }
     ensures held { (log : Log) (book : Kept D) → Stands D.Disk log book → IsTrue D.is_modelled
         → (a b : List ℕ) → D.may_leave book.journal.first a → D.may_leave book.journal.second b
-        → (held : Log) × HoldsEntries held a b × HasAtMostOneMore log held
+        → (held : Log) × HoldsEntries held.entries a b × HasAtMostOneMore log held
         × ((uploads : Contents) → IsWithin book.known uploads → IsLegal uploads held) }
     ensures in_turn { (log : Log) (old new : Kept D) (turn : Turn) → Stands D.Disk log old → old.journal.broken ≡ false
         → IsTurnOf D.Disk turn.entry old turn.answer new → IsTrue D.is_modelled
         → (a b : List ℕ) → D.left_since new.journal.first (D.moment old.journal.first) a
         → D.left_since new.journal.second (D.moment old.journal.second) b
-        → (held : Log) × HoldsEntries held a b × ((held ≡ log) ⊎ (held ≡ with_entry log turn.entry))
+        → (held : Log) × HoldsEntries held.entries a b × ((held ≡ log) ⊎ (held ≡ with_entry log turn.entry))
         × IsLegal old.known held }
 {
     change_journal::laws::slots_hold_an_entry_whose_gate_is_open();

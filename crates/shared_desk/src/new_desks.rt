@@ -1,9 +1,9 @@
 //! What a new desk is told apart by.
 ghost use Rattle.std.specs.Prelude.{◌≡◌, ◌≤◌};
 
-use byte_view::BlobInfo;
+use change_log::Log;
 use seen_lists::NewList;
-use site_change::Entry;
+use site_desk::KnownFiles;
 use std::marker::Model;
 use std::sync::Wait;
 use std::sync::ledger::Blank;
@@ -14,8 +14,8 @@ use std::sync::ledger::Blank;
 pub struct NewDesk {
     pub(crate) seats: u64,
     pub(crate) count: Blank,
-    pub(crate) entries: NewList<Entry>,
-    pub(crate) uploads: NewList<BlobInfo>,
+    pub(crate) entries: NewList<Log>,
+    pub(crate) uploads: NewList<KnownFiles>,
 }
 
 impl Model for NewDesk {

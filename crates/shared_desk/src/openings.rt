@@ -4,21 +4,20 @@ ghost use Rattle.change_log.specs.Logs.{last_number};
 ghost use Rattle.change_undo.specs.Plans.{IsHistoryOver};
 ghost use Rattle.seen_lists.specs.Visits.{sees};
 ghost use Rattle.site_desk.specs.Snaps.{IsFromUploads};
-ghost use Rattle.shared_desk.specs.FoundFiles.{files_of};
 ghost use Rattle.shared_desk.specs.NewDesks.{AreNames};
 
 use crate::desks::Desk;
 use crate::new_desks::NewDesk;
 use crate::showing::{DeskShown, FirstPublished, publish_found};
 use blob_store::{BlobIndex, Blobs, Shelf};
-use byte_view::BlobInfo;
 use change_journal::Journal;
+use change_log::Log;
 use change_undo::History;
 use found_host::Found;
 use host_disk::Disk;
 use seen_lists::{ListName, NewList, Visitor};
-use site_change::{Entry, uploads_are_digested};
-use site_desk::{Book, DeskName, HostSnap, Published, Seats, Stock, Tie};
+use site_change::uploads_are_digested;
+use site_desk::{Book, DeskName, HostSnap, KnownFiles, Published, Seats, Stock, Tie};
 use std::alloc::{AllocError, Global};
 use std::sync::ledger::Blank;
 use std::sync::{Arc, Mutex, Wait};
@@ -27,7 +26,7 @@ use std::sync::{Arc, Mutex, Wait};
 pub type Opened<J, K, D, S, R> = (
     Desk<J, K, D, S, DeskShown<J>, R>,
     Seats<J>,
-    Visitor<Entry, J, HostSnap>,
+    Visitor<Log, J, HostSnap>,
 );
 
 /// The snapshot of what a history is now.
@@ -39,18 +38,16 @@ fn snap_of(alloc: Global, history: &History) -> Result<Arc<HostSnap>, AllocError
 }
 
 /// The stock of the files that are known.
-fn stock_of<K: ListName<BlobInfo>>(index: BlobIndex, uploads: NewList<BlobInfo>) -> Stock<K>
+fn stock_of<K: ListName<KnownFiles>>(index: BlobIndex, uploads: NewList<KnownFiles>) -> Stock<K>
     requires book { uploads ≡ K.book }
-    requires found { K.found ≡ files_of index }
+    requires found { K.found ≡ index }
     ensures { result ≡ index }
 {
-    let list = uploads.named::<K>(index.len());
-    uploads_are_digested(&index);
-    Stock::of(index, list)
+    Stock::of(index, uploads.named::<K>())
 }
 
 /// The book of what is found, and what is known of its files.
-fn book_of<J: DeskName, K: ListName<BlobInfo>, D: Disk + Drop, R: Wait + Drop>(
+fn book_of<J: DeskName, K: ListName<KnownFiles>, D: Disk + Drop, R: Wait + Drop>(
     alloc: Global,
     snap: Arc<HostSnap>,
     journal: Journal<D>,
@@ -77,7 +74,7 @@ fn seat_all<J: DeskName, R: Wait + Drop>(
     rt: R,
     snap: &Arc<HostSnap>,
     count: Blank,
-    entries: NewList<Entry>,
+    entries: NewList<Log>,
     opening: u64,
     seats: u64,
     visitors: usize,
@@ -93,21 +90,21 @@ fn seat_all<J: DeskName, R: Wait + Drop>(
     ensures visitor { IfOk result (λ made. made.0.1 ≡ sees J.found) }
     ensures seats { IfOk result (λ made. made.1 ≡ seats) }
 {
-    let list = entries.named::<J>(opening);
+    let list = entries.named::<J>();
     let (count, rest) = count.open::<J>();
     let places = Seats::of(opening, seats, rest);
-    let shown = publish_found(alloc, rt, snap, list, count, visitors)?;
+    let shown = publish_found(alloc, rt, snap, opening, list, count, visitors)?;
     Ok((shown, places))
 }
 
 /// The desk of what is found, with what is published of it.
-fn desk_of<J: DeskName, K: ListName<BlobInfo>, D: Disk + Drop, S: Shelf + Drop, R: Wait + Drop>(
+fn desk_of<J: DeskName, K: ListName<KnownFiles>, D: Disk + Drop, S: Shelf + Drop, R: Wait + Drop>(
     alloc: Global,
     seats: u64,
     snap: Arc<HostSnap>,
     journal: Journal<D>,
     blobs: Blobs<S>,
-    uploads: NewList<BlobInfo>,
+    uploads: NewList<KnownFiles>,
     published: Box<Published<J, DeskShown<J>, R>>,
 ) -> Desk<J, K, D, S, DeskShown<J>, R>
     requires seats { (1 ≤ seats) × (seats ≡ J.parts) }
@@ -116,7 +113,7 @@ fn desk_of<J: DeskName, K: ListName<BlobInfo>, D: Disk + Drop, S: Shelf + Drop, 
     requires over { IsHistoryOver blobs.known snap.value }
     requires published { published.value ≡ snap.value.entries }
     requires book { uploads ≡ K.book }
-    requires files { K.found ≡ files_of blobs.known }
+    requires files { K.found ≡ blobs.known }
 {
     let (index, files) = blobs.into_parts();
     let stock: Stock<K> = stock_of(index, uploads);
@@ -135,7 +132,7 @@ fn prepare<J: DeskName, R: Wait + Drop>(
     rt: R,
     history: &History,
     count: Blank,
-    entries: NewList<Entry>,
+    entries: NewList<Log>,
     seats: u64,
     visitors: usize,
 ) -> Result<(Arc<HostSnap>, FirstPublished<J, R>, Seats<J>), AllocError>
@@ -158,7 +155,7 @@ fn prepare<J: DeskName, R: Wait + Drop>(
 }
 
 /// Opens the desk of what is found, with its seats and a visitor who knows the entries that are found. Out of memory hands back what is found, as it is.
-pub fn open<J: DeskName, K: ListName<BlobInfo>, D: Disk + Drop, S: Shelf + Drop, R: Wait + Drop>(
+pub fn open<J: DeskName, K: ListName<KnownFiles>, D: Disk + Drop, S: Shelf + Drop, R: Wait + Drop>(
     alloc: Global,
     rt: R,
     new: NewDesk,
@@ -167,7 +164,7 @@ pub fn open<J: DeskName, K: ListName<BlobInfo>, D: Disk + Drop, S: Shelf + Drop,
 ) -> Result<Opened<J, K, D, S, R>, Found<D, S>>
     requires names { AreNames J.name J.parts J.book K.book new }
     requires entries { J.found ≡ found.journal.entries }
-    requires uploads { K.found ≡ files_of found.store.known }
+    requires uploads { K.found ≡ found.store.known }
     requires limit { found.limit ≡ 1000000 }
     requires visitors { (0 < visitors) × (visitors ≤ 64) }
     ensures seats { IfOk result (λ opened. opened.1 ≡ new.seats) }

@@ -7,23 +7,23 @@ ghost use Rattle.site_state.specs.Missing.{AreMissing, least_missing_of};
 
 use crate::desks::Desk;
 use blob_store::Files;
-use byte_view::BlobInfo;
+use change_log::Log;
 use host_disk::Disk;
 use host_names::Digest;
 use left_right::Absorb;
 use seen_lists::{Front, ListName};
-use site_change::{Entry, uploads_are_digested};
-use site_desk::{DeskName, Notice, SeenFiles};
+use site_change::uploads_are_digested;
+use site_desk::{DeskName, KnownFiles, Notice, SeenFiles};
 use site_state::{Listing, missing};
 use std::alloc::{AllocError, Global};
 use std::sync::{Mutex, Wait};
 
 impl<
     J: DeskName,
-    K: ListName<BlobInfo>,
+    K: ListName<KnownFiles>,
     D: Disk,
     S,
-    T: Absorb<Notice<J>, State = [Entry; 0]> + Drop,
+    T: Absorb<Notice<J>, State = Log> + Drop,
     R: Wait + Drop,
 > Desk<J, K, D, S, T, R> {
     /// The files on the shelf, behind their lock. Threads reach them by a `ShelfAccess`, which may pass the lock.
@@ -52,7 +52,7 @@ impl<
     }
 
     /// The receipt of all entries, for somebody who has seen a front that isn't shown: it begins with that. The lock of the book is held meanwhile.
-    pub fn shown(&self, rt: &impl Wait, seen: &mut Front<Entry, J>) -> Result<Notice<J>, AllocError>
+    pub fn shown(&self, rt: &impl Wait, seen: &mut Front<Log, J>) -> Result<Notice<J>, AllocError>
         ensures receipt { IfOk result (λ receipt. receipt ≡ seen.new) }
         ensures seen { BeginsWith seen.new seen.old }
     {

@@ -4,26 +4,26 @@ ghost use Rattle.change_log.specs.Logs.{last_number};
 ghost use Rattle.left_right.specs.Handles.{pending, published};
 ghost use Rattle.seen_lists.specs.Visits.{sees};
 
+use change_log::Log;
 use left_right::WriteHandle;
 use seen_lists::{Publisher, SeenList, Shown, Visitor};
-use site_change::Entry;
 use site_desk::{DeskName, HostSnap, Notice, Published};
 use std::alloc::{AllocError, Global};
 use std::sync::{Arc, Wait, ledger};
 
 /// What is shown of a desk: the receipt that was published last.
-pub(crate) type DeskShown<J> = Shown<Entry, J, HostSnap>;
+pub(crate) type DeskShown<J> = Shown<Log, J, HostSnap>;
 
 /// What shows a desk, boxed.
-type DeskPublisher<J, R> = Box<Publisher<Entry, J, HostSnap, DeskShown<J>, R>>;
+type DeskPublisher<J, R> = Box<Publisher<Log, J, HostSnap, DeskShown<J>, R>>;
 
-/// The receipt of the snapshot of all items of a list.
+/// The receipt of the snapshot of what a list is now.
 fn first_receipt<J: DeskName>(
     snap: &Arc<HostSnap>,
-    list: &SeenList<Entry, J>,
+    list: &SeenList<Log, J>,
 ) -> Result<Notice<J>, AllocError>
-    requires { snap.now.value.entries ≡ list.now }
-    ensures { IfOk result (λ receipt. receipt ≡ list.now) }
+    requires { snap.now.value.entries ≡ list.now.now }
+    ensures { IfOk result (λ receipt. receipt ≡ list.now.now) }
 {
     Ok(Notice::of(Arc::try_clone(snap)?, list.front()))
 }
@@ -78,7 +78,7 @@ fn show_with_room<J: DeskName, R: Wait + Drop>(
 fn visitor_of<J: DeskName, R: Wait + Drop>(
     shown: &WriteHandle<DeskShown<J>, Notice<J>, R>,
     last: &Notice<J>,
-) -> Result<Visitor<Entry, J, HostSnap>, AllocError>
+) -> Result<Visitor<Log, J, HostSnap>, AllocError>
     ensures { IfOk result (λ visitor. visitor ≡ sees last.now) }
 {
     Ok(Visitor::of(shown.handle()?, last.again()?))
@@ -87,12 +87,12 @@ fn visitor_of<J: DeskName, R: Wait + Drop>(
 /// What shows a list, boxed.
 fn publisher_of<J: DeskName, R: Wait + Drop>(
     alloc: Global,
-    list: SeenList<Entry, J>,
+    list: SeenList<Log, J>,
     last: Notice<J>,
     shown: WriteHandle<DeskShown<J>, Notice<J>, R>,
 ) -> Result<DeskPublisher<J, R>, AllocError>
-    requires last { last ≡ list }
-    requires shown { published shown ≡ list }
+    requires last { last ≡ list.now }
+    requires shown { published shown ≡ list.now }
     requires none { pending shown ≡ [] }
     ensures { IfOk result (λ boxed. boxed.value ≡ list) }
 {
@@ -100,7 +100,7 @@ fn publisher_of<J: DeskName, R: Wait + Drop>(
     Ok(Box::new(alloc, publisher)?)
 }
 
-/// What is published of a list whose items are those that are found, boxed.
+/// What is published of a list as it was found, boxed.
 fn published_of<J: DeskName, R: Wait + Drop>(
     alloc: Global,
     opening: u64,
@@ -110,7 +110,7 @@ fn published_of<J: DeskName, R: Wait + Drop>(
     requires opening { opening ≡ last_number J.found }
     requires few { last_number J.found ≤ 1000000 }
     requires none_counted { count.total ≡ 0 }
-    requires found { publisher.value ≡ J.found }
+    requires found { publisher.value ≡ record { times = 0; now = J.found } }
     ensures { IfOk result (λ boxed. boxed.value ≡ J.found) }
 {
     let published = Published::of(opening, &mut Some(count), &mut Some(publisher));
@@ -126,7 +126,7 @@ fn show_to_first<J: DeskName, R: Wait + Drop>(
 ) -> Result<
     (
         WriteHandle<DeskShown<J>, Notice<J>, R>,
-        Visitor<Entry, J, HostSnap>,
+        Visitor<Log, J, HostSnap>,
     ),
     AllocError,
 >
@@ -140,18 +140,18 @@ fn show_to_first<J: DeskName, R: Wait + Drop>(
     Ok((shown, visitor))
 }
 
-/// What shows the snapshot of all items of a list, and a visitor.
+/// What shows the snapshot of what a list is now, and a visitor.
 fn show<J: DeskName, R: Wait + Drop>(
     alloc: Global,
     rt: R,
     snap: &Arc<HostSnap>,
-    list: SeenList<Entry, J>,
+    list: SeenList<Log, J>,
     visitors: usize,
-) -> Result<(DeskPublisher<J, R>, Visitor<Entry, J, HostSnap>), AllocError>
-    requires entries { snap.now.value.entries ≡ list }
+) -> Result<(DeskPublisher<J, R>, Visitor<Log, J, HostSnap>), AllocError>
+    requires entries { snap.now.value.entries ≡ list.now }
     requires visitors { (0 < visitors) × (visitors < 2 ^ 32) }
     ensures shown { IfOk result (λ made. made.0.value ≡ list) }
-    ensures visitor { IfOk result (λ made. made.1 ≡ sees list) }
+    ensures visitor { IfOk result (λ made. made.1 ≡ sees list.now) }
 {
     let last = first_receipt(snap, &list)?;
     let (shown, visitor) = show_to_first(alloc, rt, &last, visitors)?;
@@ -161,7 +161,7 @@ fn show<J: DeskName, R: Wait + Drop>(
 /// What is published of a desk, and a visitor.
 pub(crate) type FirstPublished<J, R> = (
     Box<Published<J, DeskShown<J>, R>>,
-    Visitor<Entry, J, HostSnap>,
+    Visitor<Log, J, HostSnap>,
 );
 
 /// Publishes the snapshot of the entries that are found.
@@ -169,19 +169,20 @@ pub(crate) fn publish_found<J: DeskName, R: Wait + Drop>(
     alloc: Global,
     rt: R,
     snap: &Arc<HostSnap>,
-    list: SeenList<Entry, J>,
+    opening: u64,
+    list: SeenList<Log, J>,
     count: ledger::Book<J>,
     visitors: usize,
 ) -> Result<FirstPublished<J, R>, AllocError>
     requires entries { snap.now.value.entries ≡ J.found }
-    requires found { list ≡ J.found }
+    requires found { list ≡ record { times = 0; now = J.found } }
+    requires opening { opening ≡ last_number J.found }
     requires few { last_number J.found ≤ 1000000 }
     requires none_counted { count.total ≡ 0 }
     requires visitors { (0 < visitors) × (visitors < 2 ^ 32) }
     ensures published { IfOk result (λ made. made.0.value ≡ J.found) }
     ensures visitor { IfOk result (λ made. made.1 ≡ sees J.found) }
 {
-    let opening = list.len();
     let (publisher, visitor) = show(alloc, rt, snap, list, visitors)?;
     Ok((published_of(alloc, opening, count, publisher)?, visitor))
 }

@@ -8,27 +8,29 @@ ghost use Rattle.site_change.specs.Changes.{IsWithin};
 ghost use Rattle.site_desk.specs.Books.{with_known};
 
 use crate::listings::is_ready;
-use byte_view::BlobInfo;
+use change_log::Log;
 use host_disk::Disk;
 use host_names::{Digest, FilePath, SiteName};
 use left_right::Absorb;
 use seen_lists::{Front, ListName};
-use site_change::{Command, Entry};
-use site_desk::{Book, DeskError, DeskName, Notice, Seat, SeenFiles, Stock, UploadError};
+use site_change::Command;
+use site_desk::{
+    Book, DeskError, DeskName, KnownFiles, Notice, Seat, SeenFiles, Stock, UploadError,
+};
 use std::sync::Wait;
 
 /// Learns of all uploads so far, and commits a command over them, from a seat. A front is told the entries that are there before.
 pub(crate) fn commit<
     J: DeskName,
-    K: ListName<BlobInfo>,
+    K: ListName<KnownFiles>,
     D: Disk,
-    T: Absorb<Notice<J>, State = [Entry; 0]> + Drop,
+    T: Absorb<Notice<J>, State = Log> + Drop,
     R: Wait + Drop,
 >(
     rt: &impl Wait,
     book: &mut Book<J, K, D, T, R>,
     stock: &mut Stock<K>,
-    seen: &mut Front<Entry, J>,
+    seen: &mut Front<Log, J>,
     mine: &mut Seat<J>,
     command: Command,
 ) -> Result<Notice<J>, DeskError<Notice<J>>>
@@ -49,14 +51,14 @@ pub(crate) fn commit<
 /// Undoes a change of a site, from a seat. A front is told the entries that are there before.
 pub(crate) fn undo<
     J: DeskName,
-    K: ListName<BlobInfo>,
+    K: ListName<KnownFiles>,
     D: Disk,
-    T: Absorb<Notice<J>, State = [Entry; 0]> + Drop,
+    T: Absorb<Notice<J>, State = Log> + Drop,
     R: Wait + Drop,
 >(
     rt: &impl Wait,
     book: &mut Book<J, K, D, T, R>,
-    seen: &mut Front<Entry, J>,
+    seen: &mut Front<Log, J>,
     mine: &mut Seat<J>,
     site: &SiteName,
     change: u64,
@@ -75,13 +77,13 @@ pub(crate) fn undo<
 /// The digest that a deploy of a site lists at a path, if an upload may go on. A front is told the entries by which that is so.
 pub(crate) fn judge<
     J: DeskName,
-    K: ListName<BlobInfo>,
+    K: ListName<KnownFiles>,
     D: Disk,
-    T: Absorb<Notice<J>, State = [Entry; 0]> + Drop,
+    T: Absorb<Notice<J>, State = Log> + Drop,
     R: Wait + Drop,
 >(
     book: &mut Book<J, K, D, T, R>,
-    seen: &mut Front<Entry, J>,
+    seen: &mut Front<Log, J>,
     mine: &mut Seat<J>,
     site: &SiteName,
     number: u64,
@@ -109,14 +111,14 @@ pub(crate) fn judge<
 /// Learns of all uploads so far, and says whether a deploy of a site is ready over them. Both are told: these files and all entries.
 fn learn_if_ready<
     J: DeskName,
-    K: ListName<BlobInfo>,
+    K: ListName<KnownFiles>,
     D: Disk,
-    T: Absorb<Notice<J>, State = [Entry; 0]> + Drop,
+    T: Absorb<Notice<J>, State = Log> + Drop,
     R: Wait + Drop,
 >(
     book: &mut Book<J, K, D, T, R>,
     stock: &mut Stock<K>,
-    seen: &mut Front<Entry, J>,
+    seen: &mut Front<Log, J>,
     known: &mut SeenFiles<K>,
     mine: &mut Seat<J>,
     site: &SiteName,
@@ -143,15 +145,15 @@ fn learn_if_ready<
 /// the entries that are there before.
 pub(crate) fn publish_if_ready<
     J: DeskName,
-    K: ListName<BlobInfo>,
+    K: ListName<KnownFiles>,
     D: Disk,
-    T: Absorb<Notice<J>, State = [Entry; 0]> + Drop,
+    T: Absorb<Notice<J>, State = Log> + Drop,
     R: Wait + Drop,
 >(
     rt: &impl Wait,
     book: &mut Book<J, K, D, T, R>,
     stock: &mut Stock<K>,
-    seen: &mut Front<Entry, J>,
+    seen: &mut Front<Log, J>,
     known: &mut SeenFiles<K>,
     mine: &mut Seat<J>,
     site: &SiteName,

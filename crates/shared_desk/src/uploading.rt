@@ -17,18 +17,18 @@ use blob_store::{
     AbsenceReceipt, BlobIndex, Files, PutReceipt, SharedShelf, Shelf, ShelfAccess, UploadFault,
 };
 use byte_view::{BlobInfo, MAX_SIZE};
+use change_log::Log;
 use host_disk::Disk;
 use host_names::{Digest, FilePath, SiteName};
 use left_right::Absorb;
 use seen_lists::{Front, ListName};
-use site_change::Entry;
-use site_desk::{DeskName, Notice, Seat, SeenFiles, Stock, Tie, UploadError};
+use site_desk::{DeskName, KnownFiles, Notice, Seat, SeenFiles, Stock, Tie, UploadError};
 use std::alloc::Global;
 use std::snapshot::Snapshot;
 use std::sync::{Arc, Mutex, Wait};
 
 /// What is known, if the file of a digest is.
-fn tie_if_known<K: ListName<BlobInfo>>(stock: &Stock<K>, digest: &Digest) -> Option<Tie<K>>
+fn tie_if_known<K: ListName<KnownFiles>>(stock: &Stock<K>, digest: &Digest) -> Option<Tie<K>>
     ensures { MatchOption result ⊤ (λ known. IsSome (map.get known digest.now)) }
 {
     stock.index().find(digest)?;
@@ -44,7 +44,7 @@ struct PutFile<S> {
 }
 
 /// What is known once a file is, which was put before.
-fn tie_with<K: ListName<BlobInfo>, S: Shelf>(
+fn tie_with<K: ListName<KnownFiles>, S: Shelf>(
     stock: &mut Stock<K>,
     file: PutFile<S>,
 ) -> Result<Tie<K>, UploadFault>
@@ -85,10 +85,10 @@ fn put<S: Shelf + Drop>(
 
 impl<
     J: DeskName,
-    K: ListName<BlobInfo>,
+    K: ListName<KnownFiles>,
     D: Disk,
     S,
-    T: Absorb<Notice<J>, State = [Entry; 0]> + Drop,
+    T: Absorb<Notice<J>, State = Log> + Drop,
     R: Wait + Drop,
 > Desk<J, K, D, S, T, R> {
     /// Puts bytes on the shelf, and gives what is known once their file is. It becomes known last, in one step.
@@ -137,7 +137,7 @@ impl<
     pub fn judge(
         &self,
         rt: &impl Wait,
-        seen: &mut Front<Entry, J>,
+        seen: &mut Front<Log, J>,
         mine: &mut Seat<J>,
         site: &SiteName,
         number: u64,
@@ -156,7 +156,7 @@ impl<
     pub fn publish_if_ready(
         &self,
         rt: &impl Wait,
-        seen: &mut Front<Entry, J>,
+        seen: &mut Front<Log, J>,
         known: &mut SeenFiles<K>,
         mine: &mut Seat<J>,
         site: &SiteName,

@@ -6,7 +6,7 @@ use Rattle.change_log.specs.Logs.{BeginsWith, Log}
 use Rattle.host_connection.specs.StandingIn.{StandsIn}
 use Rattle.shared_house.specs.Desks.{HouseCall}
 use Rattle.shared_house.specs.Guests.{IsGuestAnswer}
-use Rattle.shared_house.specs.HouseLaws.{stays}
+use Rattle.growing.specs.Logs.{stays}
 use Rattle.shared_house.specs.Seeing.{AreAll, HasAll, HasSeen, IsLater, Known, Visit, by_front, by_visit, finds, learns, looked}
 use Rattle.shared_house.specs.Shared.{IsSharedAnswer}
 use Rattle.shared_house.proofs.Fronts.{all_still, and_one, later_still}

@@ -1,9 +1,8 @@
 -- An entry that is made is told and shown under its number.
-use Rattle.std.proofs.Common.{◌≡◌, inl, inr, ℕ, ◌+◌, ◌-◌, ◌<◌, ◌==◌, List, [], ◌∷◌, ◌++◌, length, slice_get, true, false, cond, Some, None, Result, Ok, Err, refl, sym, ap, ◌∙◌, arith, Option}
+use Rattle.std.proofs.Common.{◌≡◌, inl, inr, ℕ, Some, Result, Ok, Err, refl, sym, ap, ◌∙◌, Option}
 use Rattle.std.specs.Prelude.{IfErr, IfOk, OnOk, option_map}
-use Rattle.std.proofs.lemmas.Bool.{eqb-true}
-use Rattle.std.proofs.lemmas.List.{length-append}
 use Rattle.change_log.specs.Logs.{BeginsWith, Log, entry_at, last_number, with_entry}
+use Rattle.change_log.proofs.Longer.{entry_at-with_entry, last_number-with_entry}
 use Rattle.site_change.specs.declared.commands.Command.{Command}
 use Rattle.site_change.specs.declared.entries.Entry.{Entry}
 use Rattle.site_change.specs.declared.entries.Entry.TheVariants.{Change}
@@ -17,20 +16,9 @@ use Rattle.shared_house.specs.Entering.{IsEntryAnswer, reason_of_command, upload
 use Rattle.shared_house.specs.Seeing.{Known, by_front}
 use Rattle.shared_house.specs.Shared.{CommitsAs}
 
-at_end : (entries : List Entry) (entry : Entry) → slice_get (entries ++ entry ∷ []) (length entries) ≡ Some entry
-at_end [] entry = refl
-at_end (other ∷ entries) entry = at_end entries entry
-
-nonzero : (k : ℕ) → 0 < k → (k == 0) ≡ false
-nonzero k h = elim (k == 0) as (λ t. (k == 0) ≡ t → t ≡ false) [ true ↦ λ e. absurd (omega (arith, eqb-true k 0 e, h)) | false ↦ λ e. refl ] refl
-
 last_shown : (log before : Log) (entry : Entry) (number : ℕ) → log ≡ with_entry before entry → number ≡ last_number log → entry_at log number ≡ Some entry
 last_shown log before entry number is last =
-    let long : length log ≡ length before + 1 = ap length is ∙ length-append before (entry ∷ []) in
-    let count : number ≡ length log = last in
-    let some : 0 < number = omega (arith, long, count) in
-    let place : number - 1 ≡ length before = omega (arith, long, count) in
-    ap (λ t. cond t None (slice_get log (number - 1))) (nonzero number some) ∙ ap (slice_get log) place ∙ ap (λ l. slice_get l (length before)) is ∙ at_end before entry
+    ap (λ (l : Log). entry_at l number) is ∙ entry_at-with_entry before entry number (last ∙ ap last_number is ∙ last_number-with_entry before entry)
 
 pub shown_taken : (entry : Entry) (before log receipt : Log) (result : Result ℕ Stop) → receipt ≡ with_entry before entry
     → IfOk result (λ number. number ≡ last_number receipt) → OnOk result (log ≡ receipt) → IfOk result (λ number. entry_at log number ≡ Some entry)

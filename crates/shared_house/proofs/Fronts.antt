@@ -1,30 +1,19 @@
 -- Logs that begin with others.
-use Rattle.std.proofs.Common.{◌≡◌, ◌∙◌, ◌+◌, List, [], ◌∷◌, ◌++◌, length, nat_lt, true, false, cond, refl, sym, ap, subst, append-nil, arith}
+use Rattle.std.proofs.Common.{◌≡◌, ◌∙◌, inl, inr, List, [], ◌∷◌, ◌++◌, ap, subst}
 use Rattle.std.specs.Prelude.{All}
-use Rattle.std.proofs.lemmas.Bool.{lt-ltb}
-use Rattle.std.proofs.lemmas.List.{length-append}
 use Rattle.std.specs.List.{AllByRecursion}
 use Rattle.std.proofs.lemmas.List.Elements.{recursion_from_All, All-from_recursion, All-append}
-use mathlib.Core.List.{IsPrefix}
-use Rattle.seen_lists.specs.Fronts.{longer_of}
+use Rattle.growing.specs.Orders.{IsLaterOf}
 use Rattle.change_log.specs.Logs.{BeginsWith, Log}
 use Rattle.byte_view.specs.Contents.{Contents}
 use Rattle.site_change.specs.Changes.{IsWithin}
-use Rattle.shared_house.specs.HouseLaws.{goes_on}
+use Rattle.growing.specs.Logs.{goes_on}
 use Rattle.shared_house.specs.Seeing.{AreAll, HasAll, IsLater, Known, Visit}
 
--- a list of entries that another begins with
-pub begins : (log longer : Log) → IsPrefix log longer → BeginsWith longer log
-begins log longer prefix = (prefix.0, sym prefix.1)
-
 -- who learns a log that begins with all that was known knows just that
-pub learnt_whole : (known log new : Log) → BeginsWith log known → new ≡ longer_of known log → new ≡ log
-learnt_whole known log new ([], is) longer =
-    let same : known ≡ log = sym (is ∙ append-nil known) in
-    longer ∙ elim (nat_lt (length known) (length log)) as (λ b. cond b log known ≡ log) [ true ↦ refl | false ↦ same ]
-learnt_whole known log new (entry ∷ more, is) longer =
-    let long : length log ≡ length known + length (entry ∷ more) = ap length is ∙ length-append known (entry ∷ more) in
-    longer ∙ ap (λ b. cond b log known) (lt-ltb (length known) (length log) (omega (arith, long)))
+pub learnt_whole : (known log new : Log) → BeginsWith log known → IsLaterOf (λ (a b : Log). BeginsWith b a) known log new → new ≡ log
+learnt_whole known log new begins (inl (later, is)) = is
+learnt_whole known log new begins (inr (newer, is)) = absurd (newer.1 begins)
 
 weaker : {X : Type 0} (P Q : X → Type 0) (xs : List X) → ((x : X) → P x → Q x) → AllByRecursion P xs → AllByRecursion Q xs
 weaker P Q [] each all = tt

@@ -1,15 +1,14 @@
 -- What running nodes answer.
-use Rattle.std.proofs.Common.{◌≡◌, ◌∙◌, inl, inr, ℕ, List, [], ◌∷◌, length, true, false, Some, None, Result, Ok, Err, cond, ap, sym, subst}
-use Rattle.std.proofs.lemmas.List.{length-append}
-use Rattle.std.specs.FinMap as map
+use Rattle.std.proofs.Common.{◌≡◌, ◌∙◌, inl, inr, ℕ, List, true, false, Some, None, Result, Ok, Err, cond, ap, sym, subst}
 use Rattle.std.specs.Prelude.{nat_le}
 use Rattle.byte_view.specs.Contents.{Contents}
 use Rattle.host_names.specs.declared.names.SiteName.{SiteName}
 use Rattle.site_change.specs.Changes.{run_from}
 use Rattle.site_change.specs.declared.refusals.ChangeRefusal.TheVariants.{HistoryFull}
-use Rattle.change_undo.specs.Histories.{change_refusal, undo_refusal}
+use Rattle.change_undo.specs.Histories.{base_state, change_refusal, undo_refusal}
 use Rattle.change_log.specs.Logs.{BeginsWith, Log, last_number, next_number}
 use Rattle.site_change.specs.declared.entries.Entry.TheVariants.{Undo}
+use Rattle.change_log.proofs.Longer.{last_number-with_entry}
 use Rattle.change_undo.proofs.Live.{live_changes-undo}
 use Rattle.change_undo.proofs.Runs.{undo-leaves}
 use Rattle.http_wire.specs.Requests.{RequestParts}
@@ -30,7 +29,8 @@ use Rattle.site_desk.specs.declared.errors.DeskError.TheVariants as desk
 use Rattle.shared_house.specs.Desks.{Asks, Enters, HouseCall}
 use Rattle.shared_house.specs.Entering.{IsEntryAnswer, IsJudged, learnt_of, reason_of_undo, told_of}
 use Rattle.shared_house.specs.Guests.{IsGuestAnswer}
-use Rattle.shared_house.specs.HouseLaws.{commits_known, goes_on, has_all, has_itself, looks_known, same_known, takes_known, undoes_known}
+use Rattle.growing.specs.Logs.{goes_on}
+use Rattle.shared_house.specs.HouseLaws.{commits_known, has_all, has_itself, looks_known, same_known, takes_known, undoes_known}
 use Rattle.shared_house.specs.Running.{IsReadReply, IsUndoReply, LeavesOut}
 use Rattle.shared_house.specs.Seeing.{HasAll, Known, by_front}
 use Rattle.shared_house.specs.Shared.{IsSharedAnswer, RespondsAs, UndoesAs, calls_over, fails, gives}
@@ -79,7 +79,7 @@ leaves_out site k before (uploads, state, over, first) =
       uploads = uploads;
       state = left.0;
       runs = record { digested = over.digested; legal = left.2; ran = left.1 };
-      without_it = subst (λ (cs : _). run_from uploads map.empty cs ≡ Some left.0) (live_changes-undo before site k) left.1;
+      without_it = subst (λ (cs : _). run_from uploads (base_state uploads before) cs ≡ Some left.0) (live_changes-undo before site k) left.1;
     }
 
 module _ (did : HouseCall → Type 0) (site : SiteName) (k : ℕ) (old : Known) (answer : Answer) (new : Known) where
@@ -88,7 +88,7 @@ module _ (did : HouseCall → Type 0) (site : SiteName) (k : ℕ) (old : Known) 
       → IsEntryAnswer (Undo site k) (reason_of_undo site k) log made → Tells (told_entry (told_of made)) answer
       → by_front.learns old (learnt_of log made) new → IsUndoReply did site k old.log answer new.log
   by_answer log (Ok receipt) later asked (judged, is) tells learnt =
-      let next : length receipt ≡ next_number log = ap length is ∙ length-append log (Undo site k ∷ []) in inl (
+      let next : last_number receipt ≡ next_number log = ap last_number is ∙ last_number-with_entry log (Undo site k) in inl (
         log,
         later,
         leaves_out site k log judged,

@@ -1,8 +1,8 @@
 -- What the calls of a house answer together whose history others change.
-use Rattle.std.proofs.Common.{◌≡◌, inl, inr, ℕ, List, [], ◌++◌, true, Result, Ok, Err, refl, sym, ap, subst, ◌∙◌, append-nil}
-use Rattle.std.proofs.lemmas.List.{append_assoc}
+use Rattle.std.proofs.Common.{◌≡◌, inl, inr, ℕ, List, true, Result, Ok, Err, refl, sym, ap, subst}
 use Rattle.std.specs.declared.alloc.AllocError.{AllocError}
 use Rattle.change_log.specs.Logs.{BeginsWith, Log}
+use Rattle.growing.specs.Logs.{goes_on, stays}
 use Rattle.site_change.specs.declared.entries.Entry.{Entry}
 use Rattle.site_change.specs.declared.commands.Command.{Command}
 use Rattle.site_change.specs.declared.entries.Entry.TheVariants.{Change, Undo}
@@ -55,12 +55,6 @@ told did old new parts body answer (inl is) = inl (responds did parts body answe
 told did old new parts body answer (inr (takes, only)) = inr (takes, (only.0, ap (λ (h : Sight). h.known) only.1))
 
 -- ---- what is known
-
-pub stays : (log : Log) → BeginsWith log log
-stays log = ([], sym (append-nil log))
-
-pub goes_on : (first mid last : Log) → BeginsWith mid first → BeginsWith last mid → BeginsWith last first
-goes_on first mid last a b = (a.0 ++ b.0, b.1 ∙ ap (λ l. l ++ b.0) a.1 ∙ append_assoc first a.0 b.0)
 
 pub has_itself : (known : Known) → HasAll known known
 has_itself known = record { log = stays known.log; files = λ digest bytes has. has }

@@ -1,12 +1,11 @@
 -- What a connection to running nodes is told, in terms of what it saw and of what it sees then.
 use Rattle.std.specs.Prelude.{◌≡◌, ◌⊎◌, ℕ, List, Some, Err}
-use Rattle.std.specs.FinMap as map
 use Rattle.byte_view.specs.Contents.{Contents}
 use Rattle.host_names.specs.declared.names.SiteName.{SiteName}
 use Rattle.site_state.specs.States.{State}
 use Rattle.site_change.specs.Changes.{run_from}
 use Rattle.site_change.specs.declared.refusals.ChangeRefusal.{ChangeRefusal}
-use Rattle.change_undo.specs.Histories.{live_changes}
+use Rattle.change_undo.specs.Histories.{base_state, live_changes}
 use Rattle.change_undo.specs.Live.{without}
 use Rattle.change_log.specs.Logs.{BeginsWith, Log, next_number, with_entry}
 use Rattle.site_change.specs.declared.entries.Entry.TheVariants.{Undo}
@@ -30,7 +29,7 @@ pub record LeavesOut (site : SiteName) (k : ℕ) (before : Log) : Type 0 where
   pub uploads : Contents
   pub state : State
   pub runs : IsRunOver uploads (with_entry before (Undo site k)) state
-  pub without_it : run_from uploads map.empty (without k (live_changes before)) ≡ Some state
+  pub without_it : run_from uploads (base_state uploads before) (without k (live_changes before)) ≡ Some state
 
 -- it comes after all that the connection saw; it is told so, with its number, and the connection has seen the log with it then
 abbrev pub IsUndone : SiteName → ℕ → (old : Log) → Answer → (new : Log) → Type 0

@@ -4,7 +4,7 @@ use Rattle.std.specs.Coded.{Coded, code_by, coded×}
 use Rattle.change_undo.specs.Histories.{Past}
 use Rattle.shared_house.specs.Seeing.{Known}
 
--- what it knows: the longest log that its visitor saw or learnt of, and the files that it saw; and the history that it shows
+-- what it knows: the latest log that its visitor saw or learnt of, and the files that it saw; and the history that it shows
 pub record Sight : Type 0 where
   pub known : Known
   pub past : Past

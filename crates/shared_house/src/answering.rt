@@ -21,12 +21,12 @@ use host_replies::Reply;
 use http_wire::Head;
 use seen_lists::ListName;
 use site_change::{Command, Entry};
-use site_desk::DeskName;
+use site_desk::{DeskName, KnownFiles};
 use site_state::{Listing, State};
 use std::alloc::{AllocError, Global};
 use std::sync::Arc;
 
-impl<J: DeskName, K: ListName<BlobInfo>, D: DeskAccess<J, K>, G: FileAccess> Holder
+impl<J: DeskName, K: ListName<KnownFiles>, D: DeskAccess<J, K>, G: FileAccess> Holder
     for SharedHouse<J, K, D, G> {
     ghost gave = { gave_at };
 
@@ -37,7 +37,7 @@ impl<J: DeskName, K: ListName<BlobInfo>, D: DeskAccess<J, K>, G: FileAccess> Hol
     }
 }
 
-impl<J: DeskName, K: ListName<BlobInfo>, D: DeskAccess<J, K>, G: FileAccess> House
+impl<J: DeskName, K: ListName<KnownFiles>, D: DeskAccess<J, K>, G: FileAccess> House
     for SharedHouse<J, K, D, G> {
     ghost calls = { calls_of (shows D.did G.fails) };
 
@@ -129,7 +129,7 @@ impl<J: DeskName, K: ListName<BlobInfo>, D: DeskAccess<J, K>, G: FileAccess> Hou
 }
 
 /// A house answers the requests of a connection.
-impl<J: DeskName, K: ListName<BlobInfo>, D: DeskAccess<J, K>, G: FileAccess> Service
+impl<J: DeskName, K: ListName<KnownFiles>, D: DeskAccess<J, K>, G: FileAccess> Service
     for SharedHouse<J, K, D, G> {
     ghost answers = { λ old parts body answer new.
         IsSharedAnswer (shows D.did G.fails) by_front old.known parts body answer new.known };

@@ -10,13 +10,12 @@ ghost use Rattle.site_change.specs.Changes.{IsWithin};
 ghost use Rattle.shared_house.specs.Entering.{IsEntryAnswer, IsLackAnswer, IsUploadAnswer, reason_of_command, reason_of_undo};
 
 use crate::notes::LogFront;
-use byte_view::BlobInfo;
 use host_api::{Ask, Items, Refusal};
 use host_names::{Digest, FilePath, SiteName};
 use http_wire::Head;
 use seen_lists::ListName;
 use site_change::Command;
-use site_desk::{DeskError, DeskName, Notice, SeenFiles, UploadError};
+use site_desk::{DeskError, DeskName, KnownFiles, Notice, SeenFiles, UploadError};
 use site_state::Listing;
 use std::alloc::{AllocError, Global};
 
@@ -30,7 +29,7 @@ pub struct Taken<R> {
 /// Where entries are made and files are kept. Others make entries and upload files there meanwhile. Whoever asks says what was seen of the desk's log, and is
 /// told the log at which the desk answers: it begins with that. Whoever asks about files says which were seen, and is told those by which the desk answers: all
 /// that were seen are among them.
-pub trait DeskAccess<J: DeskName, K: ListName<BlobInfo>> {
+pub trait DeskAccess<J: DeskName, K: ListName<KnownFiles>> {
     /// What a call, with its answer, shows. Each desk chooses it. A house is proved over any such desk, so it can show a call only by making it.
     ghost did: { DeskCall → Type 0 };
 

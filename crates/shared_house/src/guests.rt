@@ -15,13 +15,12 @@ use crate::file_access::FileAccess;
 use crate::haste::Haste;
 use crate::houses::{DeskVisitor, SharedHouse};
 use crate::notes::Note;
-use byte_view::BlobInfo;
 use host_answers::answer;
 use host_connection::{Connection, Metered, Progress, Request, Service};
 use host_replies::Reply;
 use http_wire::{Duplex, Head};
 use seen_lists::ListName;
-use site_desk::DeskName;
+use site_desk::{DeskName, KnownFiles};
 use std::alloc::Global;
 use std::marker::Model;
 use std::mem;
@@ -31,7 +30,7 @@ use std::mem;
 /// A quick guest leaves a request for later whose answer may need the desk, or a piece of a file that isn't at hand. A thread that may wait answers such a
 /// request by a guest of its own, over what the other one saw.
 #[derive(Drop)]
-pub struct Guest<J: DeskName, K: ListName<BlobInfo>, D, G, H> {
+pub struct Guest<J: DeskName, K: ListName<KnownFiles>, D, G, H> {
     house: SharedHouse<J, K, D, G>,
     note: Note<J, K>,
     haste: H,
@@ -41,15 +40,14 @@ pub struct Guest<J: DeskName, K: ListName<BlobInfo>, D, G, H> {
     sight: Option<DeskVisitor<J>>,
 }
 
-impl<J: DeskName, K: ListName<BlobInfo>, D, G, H> Model for Guest<J, K, D, G, H> {
-    ghost use Rattle.std.specs.Coded.{coded_list};
+impl<J: DeskName, K: ListName<KnownFiles>, D, G, H> Model for Guest<J, K, D, G, H> {
     ghost use Rattle.blob_store.specs.contracts.blob_indexes.BlobIndex as index;
-    ghost use Rattle.site_change.specs.contracts.entries.Entry as entry;
+    ghost use Rattle.change_log.specs.contracts.logs.Log as logs;
     ghost use Rattle.shared_house.specs.Seeing.{Known, coded_known};
 
     ghost Value = { Known };
 
-    ghost coded = { coded_known (coded_list entry.the_row.coded) index.the_row.coded };
+    ghost coded = { coded_known logs.the_row.coded index.the_row.coded };
 
     ghost view = { λ g. g.note };
 }
@@ -69,7 +67,7 @@ fn may_need_desk(request: &Request) -> bool {
 }
 
 /// The reply to a request of a connection with this note: the house learns the note before, and the note is what the house knows then.
-fn answer_guest<J: DeskName, K: ListName<BlobInfo>, D: DeskAccess<J, K>, G: FileAccess>(
+fn answer_guest<J: DeskName, K: ListName<KnownFiles>, D: DeskAccess<J, K>, G: FileAccess>(
     alloc: Global,
     house: &mut SharedHouse<J, K, D, G>,
     note: &mut Note<J, K>,
@@ -85,7 +83,7 @@ fn answer_guest<J: DeskName, K: ListName<BlobInfo>, D: DeskAccess<J, K>, G: File
     reply
 }
 
-impl<J: DeskName, K: ListName<BlobInfo>, D: DeskAccess<J, K>, G: FileAccess, H: Haste> Service
+impl<J: DeskName, K: ListName<KnownFiles>, D: DeskAccess<J, K>, G: FileAccess, H: Haste> Service
     for Guest<J, K, D, G, H> {
     ghost answers = { IsGuestAnswer (shows D.did G.fails) };
 
@@ -121,7 +119,7 @@ impl<J: DeskName, K: ListName<BlobInfo>, D: DeskAccess<J, K>, G: FileAccess, H: 
     ghost goes_on = { houses.has_all };
 }
 
-impl<J: DeskName, K: ListName<BlobInfo>, D: DeskAccess<J, K>, G: FileAccess, H: Haste> Guest<
+impl<J: DeskName, K: ListName<KnownFiles>, D: DeskAccess<J, K>, G: FileAccess, H: Haste> Guest<
     J,
     K,
     D,

@@ -9,23 +9,25 @@ ghost use Rattle.shared_house.specs.Seeing.{HasAll, Known, by_front};
 use crate::desk_access::DeskAccess;
 use crate::notes::{LogFront, Note};
 use blob_store::UploadFault;
-use byte_view::BlobInfo;
+use change_log::Log;
 use host_answers::Stop;
 use host_api::Refusal;
 use seen_lists::{ListName, LookFault, Visitor};
-use site_change::{ChangeRefusal, Entry};
-use site_desk::{DeskError, DeskName, HostSnap, Notice, SeenFiles, UploadError};
+use site_change::ChangeRefusal;
+use site_desk::{
+    DeskError, DeskName, HostSnap, KnownFiles, Notice, SeenFiles, UploadError, number_of,
+};
 use std::alloc::AllocError;
 use std::marker::Model;
 use std::sync::Arc;
 
 /// A visitor of a desk.
-pub type DeskVisitor<J> = Visitor<Entry, J, HostSnap>;
+pub type DeskVisitor<J> = Visitor<Log, J, HostSnap>;
 
 /// What one worker of a node answers requests over: a visitor of the desk, which is the worker's own, the desk, and the node's files. It shows the
-/// snapshot of its last look or receipt. Contracts see the longest log that it saw or learnt of, the files that it has seen, and what it shows.
+/// snapshot of its last look or receipt. Contracts see the latest log that it saw or learnt of, the files that it has seen, and what it shows.
 #[derive(Drop)]
-pub struct SharedHouse<J: DeskName, K: ListName<BlobInfo>, D, G> {
+pub struct SharedHouse<J: DeskName, K: ListName<KnownFiles>, D, G> {
     pub(crate) visitor: DeskVisitor<J>,
     pub(crate) seen_files: SeenFiles<K>,
     pub(crate) desk: D,
@@ -33,18 +35,16 @@ pub struct SharedHouse<J: DeskName, K: ListName<BlobInfo>, D, G> {
     pub(crate) snap: Arc<HostSnap>,
 }
 
-impl<J: DeskName, K: ListName<BlobInfo>, D, G> Model for SharedHouse<J, K, D, G> {
-    ghost use Rattle.std.specs.Coded.{coded_list};
+impl<J: DeskName, K: ListName<KnownFiles>, D, G> Model for SharedHouse<J, K, D, G> {
     ghost use Rattle.blob_store.specs.contracts.blob_indexes.BlobIndex as index;
-    ghost use Rattle.site_change.specs.contracts.entries.Entry as entry;
+    ghost use Rattle.change_log.specs.contracts.logs.Log as logs;
     ghost use Rattle.change_undo.specs.contracts.histories.History as histories;
     ghost use Rattle.shared_house.specs.Seeing.{coded_known};
     ghost use Rattle.shared_house.specs.Sights.{Sight, coded_sight};
 
     ghost Value = { Sight };
 
-    ghost coded = { coded_sight (coded_known (coded_list entry.the_row.coded) index.the_row.coded)
-        histories.the_row.coded };
+    ghost coded = { coded_sight (coded_known logs.the_row.coded index.the_row.coded) histories.the_row.coded };
 
     ghost view = { λ h. record {
       known = record { log = h.visitor.known; files = h.seen_files };
@@ -52,7 +52,7 @@ impl<J: DeskName, K: ListName<BlobInfo>, D, G> Model for SharedHouse<J, K, D, G>
     } };
 }
 
-impl<J: DeskName, K: ListName<BlobInfo>, D: Drop, G: Drop> SharedHouse<J, K, D, G> {
+impl<J: DeskName, K: ListName<KnownFiles>, D: Drop, G: Drop> SharedHouse<J, K, D, G> {
     /// A house of what is shown now. It has seen no files.
     pub fn new(
         visitor: DeskVisitor<J>,
@@ -73,7 +73,7 @@ impl<J: DeskName, K: ListName<BlobInfo>, D: Drop, G: Drop> SharedHouse<J, K, D, 
     }
 }
 
-impl<J: DeskName, K: ListName<BlobInfo>, D, G> SharedHouse<J, K, D, G> {
+impl<J: DeskName, K: ListName<KnownFiles>, D, G> SharedHouse<J, K, D, G> {
     /// A note of what it knows.
     pub(crate) fn note(&self) -> Note<J, K>
         ensures { result ≡ self.now.known }
@@ -105,7 +105,7 @@ impl<J: DeskName, K: ListName<BlobInfo>, D, G> SharedHouse<J, K, D, G> {
         ensures number { result ≡ last_number receipt }
         ensures learnt { by_front.learns self.old.known receipt self.new.known }
     {
-        let number = receipt.number();
+        let number = number_of(&receipt);
         self.visitor.learn(receipt);
         number
     }
@@ -181,8 +181,8 @@ impl<J: DeskName, K: ListName<BlobInfo>, D, G> SharedHouse<J, K, D, G> {
     }
 }
 
-impl<J: DeskName, K: ListName<BlobInfo>, D: DeskAccess<J, K>, G> SharedHouse<J, K, D, G> {
-    /// The snapshot of the most that is shown, was seen or was learnt. There may be no memory for an owner of it.
+impl<J: DeskName, K: ListName<KnownFiles>, D: DeskAccess<J, K>, G> SharedHouse<J, K, D, G> {
+    /// The snapshot of the latest that is shown, was seen or was learnt. There may be no memory for an owner of it.
     pub(crate) fn see(&mut self) -> Result<Arc<HostSnap>, AllocError>
         ensures seen { IfOk result (λ snap. self.new.known.log ≡ snap.value.entries) }
         ensures kept { BeginsWith self.new.known.log self.old.known.log }

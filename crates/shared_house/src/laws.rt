@@ -20,15 +20,19 @@ ghost use Rattle.shared_house.specs.Shared.{IsSharedAnswer};
 use crate::desk_access::DeskAccess;
 use crate::file_access::FileAccess;
 use crate::notes::Note;
-use byte_view::BlobInfo;
 use http_wire::Duplex;
 use seen_lists::ListName;
-use seen_lists::laws::{each_front_begins_with_what_was_found, one_of_two_fronts_begins_the_other};
-use site_desk::DeskName;
+use seen_lists::laws::{each_front_is_later_than_what_was_found, one_of_two_fronts_is_later};
+use site_desk::{DeskName, KnownFiles};
 
 /// A note stands for all that its connection saw: an answer to a connection with a note that begins with all of it is an answer of a house that saw it
 /// all itself.
-pub fn notes_stand_for_all<J: DeskName, K: ListName<BlobInfo>, D: DeskAccess<J, K>, G: FileAccess>()
+pub fn notes_stand_for_all<
+    J: DeskName,
+    K: ListName<KnownFiles>,
+    D: DeskAccess<J, K>,
+    G: FileAccess,
+>()
     ensures { let did = shows D.did G.fails in StandsIn (IsGuestAnswer did) (IsSharedAnswer did by_visit)
         (λ (note : Known) (seen : Visit). HasSeen seen note) }
 {}
@@ -37,7 +41,7 @@ pub fn notes_stand_for_all<J: DeskName, K: ListName<BlobInfo>, D: DeskAccess<J, 
 /// every log at which its desk answered the connection, and each of whose looks and answers begins with all of these.
 pub fn hops_are_a_connection<
     J: DeskName,
-    K: ListName<BlobInfo>,
+    K: ListName<KnownFiles>,
     D: DeskAccess<J, K>,
     G: FileAccess,
     X: Duplex,
@@ -54,7 +58,7 @@ pub fn hops_are_a_connection<
 /// was found when the desk was opened.
 pub fn the_headline_of_running_nodes<
     J: DeskName,
-    K: ListName<BlobInfo>,
+    K: ListName<KnownFiles>,
     D: DeskAccess<J, K>,
     G: FileAccess,
 >(one: &Note<J, K>, other: &Note<J, K>)
@@ -70,6 +74,6 @@ pub fn the_headline_of_running_nodes<
     ensures of_one_history { BeginsWith one.now.log other.now.log ⊎ BeginsWith other.now.log one.now.log }
     ensures found { BeginsWith one.now.log J.found }
 {
-    one_of_two_fronts_begins_the_other(&one.log, &other.log);
-    each_front_begins_with_what_was_found(&one.log);
+    one_of_two_fronts_is_later(&one.log, &other.log);
+    each_front_is_later_than_what_was_found(&one.log);
 }

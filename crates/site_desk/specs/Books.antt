@@ -34,7 +34,7 @@ coded_kept {D = D} known log disk =
 abbrev pub with_known : {D : Type 0} → Kept D → Contents → Kept D
 with_known kept known = record { known = known; journal = kept.journal }
 
--- the state: what the changes that no undo names give from nothing
+-- the state: what the changes that no undo names give from the base
 abbrev pub state_of : {D : Type 0} → Kept D → State
 state_of kept = unwrap_or (run kept.known kept.journal.entries) map.empty
 
@@ -55,11 +55,12 @@ IsEntered disk (Err other) entry old new = new ≡ old
 
 -- ---- what private functions say
 
--- there are as many entries as were there at the opening and as were made from seats, and no more than any history has
-pub record IsCounted (named opening total : ℕ) (log : Log) : Type 0 where
+-- there are as many entries as were there at the opening and as were made from seats, and no more than any history has; the log was pushed no oftener
+pub record IsCounted (named opening total pushed : ℕ) (log : Log) : Type 0 where
   pub opened : opening ≡ named
   pub counted : opening + total ≡ last_number log
   pub few : last_number log ≤ 1000000
+  pub pushes : pushed ≤ last_number log
 
 -- The history has the greatest limit, and the entries of the journal and of what is published; over the known uploads it is what it is.
 pub record IsBook (past : Past) (known : Contents) (put published : Log) : Type 0 where

@@ -1,13 +1,9 @@
--- Files in the order in which they became known.
-use Rattle.std.specs.Prelude.{ℕ, List, [], ◌∷◌}
-use Rattle.std.specs.FinMap as map
-use Rattle.byte_view.specs.Contents.{Contents, with_file}
+-- Files that become known, one after another.
+use Rattle.byte_view.specs.Contents.{Contents}
+use Rattle.site_change.specs.Changes.{IsWithin}
 
--- these files with more of them
-abbrev pub with_files : Contents → List (List ℕ) → Contents
-with_files files [] = files
-with_files files (bytes ∷ more) = with_files (with_file files bytes) more
+pub itself : (files : Contents) → IsWithin files files
+itself files digest bytes has = has
 
--- the files of a list
-abbrev pub contents_of : List (List ℕ) → Contents
-contents_of files = with_files map.empty files
+pub goes_on : (first mid last : Contents) → IsWithin first mid → IsWithin mid last → IsWithin first last
+goes_on first mid last a b digest bytes has = b digest bytes (a digest bytes has)

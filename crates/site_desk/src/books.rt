@@ -3,7 +3,7 @@ ghost use Rattle.std.specs.Prelude.{◌≡◌, ◌+◌, ◌≤◌, IfOk, MatchOp
 ghost use Rattle.byte_view.specs.Contents.{AreDigested};
 ghost use Rattle.entry_texts.specs.Spells.{IsInRange};
 ghost use Rattle.change_undo.specs.Histories.{may_take_memory};
-ghost use Rattle.change_log.specs.Logs.{BeginsWith, Log, last_number, with_entry};
+ghost use Rattle.change_log.specs.Logs.{BeginsWith, last_number, with_entry};
 ghost use Rattle.change_undo.specs.Plans.{IsHistoryOver};
 ghost use Rattle.site_change.specs.declared.entries.Entry.{Entry as Line};
 ghost use Rattle.site_change.specs.declared.entries.Entry.TheVariants as entry;
@@ -16,27 +16,27 @@ use crate::names::DeskName;
 use crate::published::{Notice, Published};
 use crate::seats::{Returned, Seat};
 use crate::snaps::HostSnap;
-use crate::stocks::{Stock, Tie};
-use byte_view::{BlobInfo, Uploads};
+use crate::stocks::{KnownFiles, Stock, Tie};
+use byte_view::Uploads;
 use change_journal::Journal;
+use change_log::Log;
 use change_undo::History;
 use host_disk::Disk;
 use host_names::SiteName;
 use journaled_history::{put_last, with_change, with_undo};
 use left_right::Absorb;
 use seen_lists::{Front, ListName, Owners};
-use site_change::{ChangeError, Command, Entry};
+use site_change::{ChangeError, Command};
 use std::alloc::Global;
 use std::marker::Model;
 use std::sync::{Arc, Wait};
 
-/// The last entry of a history that has one.
-fn last_entry(history: &History) -> &Entry
-    requires { (log : Log) × (last : Line) × (history.now.entries ≡ with_entry log last) }
-    ensures last { (log : Log) (last : Line) → history.now.entries ≡ with_entry log last → result.now ≡ last }
-    ensures few { last_number history.now.entries ≤ 1000000 }
+/// A history has no more entries than any may have. Nothing changes.
+fn is_bounded(history: &History)
+    requires { history.now.limit ≡ 1000000 }
+    ensures { last_number history.now.entries ≤ 1000000 }
 {
-    history.entry(history.len()).unwrap()
+    history.len();
 }
 
 /// A desk's book: its history, its journal, what is published of it, and what is known of the uploads. Contracts see these uploads and the
@@ -48,9 +48,9 @@ fn last_entry(history: &History) -> &Entry
 #[derive(Drop)]
 pub struct Book<
     J: DeskName,
-    K: ListName<BlobInfo>,
+    K: ListName<KnownFiles>,
     D: Disk,
-    T: Absorb<Notice<J>, State = [Entry; 0]> + Drop,
+    T: Absorb<Notice<J>, State = Log> + Drop,
     R: Wait + Drop,
 > {
     alloc: Global,
@@ -62,19 +62,18 @@ pub struct Book<
 
 impl<
     J: DeskName,
-    K: ListName<BlobInfo>,
+    K: ListName<KnownFiles>,
     D: Disk,
-    T: Absorb<Notice<J>, State = [Entry; 0]> + Drop,
+    T: Absorb<Notice<J>, State = Log> + Drop,
     R: Wait + Drop,
 > Model for Book<J, K, D, T, R> {
-    ghost use Rattle.std.specs.Coded.{coded_list};
-    ghost use Rattle.site_change.specs.contracts.entries.Entry as entry;
+    ghost use Rattle.change_log.specs.contracts.logs.Log as log;
     ghost use Rattle.blob_store.specs.contracts.blob_indexes.BlobIndex as known;
     ghost use Rattle.site_desk.specs.Books.{IsBook, Kept, coded_kept};
 
     ghost Value = { Kept D };
 
-    ghost coded = { coded_kept known.the_row.coded (coded_list entry.the_row.coded) D.code };
+    ghost coded = { coded_kept known.the_row.coded log.the_row.coded D.code };
 
     ghost view = { λ b. record { known = b.tie; journal = b.journal } };
 
@@ -83,9 +82,9 @@ impl<
 
 impl<
     J: DeskName,
-    K: ListName<BlobInfo>,
+    K: ListName<KnownFiles>,
     D: Disk,
-    T: Absorb<Notice<J>, State = [Entry; 0]> + Drop,
+    T: Absorb<Notice<J>, State = Log> + Drop,
     R: Wait + Drop,
 > Book<J, K, D, T, R> {
     /// The book of the snapshot of a history, which has the entries of the desk's opening. It takes the other parts out of options, since a
@@ -139,7 +138,7 @@ impl<
     }
 
     /// Tells a front of all entries. What it had seen was a beginning of them.
-    pub fn tell(&mut self, seen: &mut Front<Entry, J>)
+    pub fn tell(&mut self, seen: &mut Front<Log, J>)
         ensures same { self.new ≡ self.old }
         ensures told { seen.new ≡ self.old.journal.entries }
         ensures kept { BeginsWith seen.new seen.old }
@@ -272,9 +271,9 @@ impl<
         self.tie.are_digested();
         let snap = HostSnap::shared(self.alloc, next)?;
         let owners = Owners::of(&snap)?;
-        let entry = last_entry(snap.history());
+        is_bounded(snap.history());
         put_last(self.alloc, &mut self.journal, snap.history())?;
-        let receipt = self.published.show(rt, mine, entry, owners);
+        let receipt = self.published.show(rt, mine, snap.log(), owners);
         self.latest = snap;
         Ok(receipt)
     }

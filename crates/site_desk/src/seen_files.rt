@@ -3,19 +3,18 @@ ghost use Rattle.std.specs.Prelude.{◌≡◌};
 ghost use Rattle.std.specs.FinMap as map;
 ghost use Rattle.site_change.specs.Changes.{IsWithin};
 
-use crate::stocks::{Stock, Tie};
-use byte_view::BlobInfo;
+use crate::stocks::{KnownFiles, Stock, Tie};
 use seen_lists::ListName;
 use std::marker::Model;
 
 /// What somebody has seen of a stock's files, who may have seen nothing of them yet. It takes no memory, and can be made again. Contracts see the bytes of
 /// each file.
 #[derive(Drop)]
-pub struct SeenFiles<K: ListName<BlobInfo>> {
+pub struct SeenFiles<K: ListName<KnownFiles>> {
     tie: Option<Tie<K>>,
 }
 
-impl<K: ListName<BlobInfo>> Model for SeenFiles<K> {
+impl<K: ListName<KnownFiles>> Model for SeenFiles<K> {
     ghost use Rattle.std.specs.Prelude.{unwrap_or};
     ghost use Rattle.std.specs.FinMap as map;
     ghost use Rattle.byte_view.specs.Contents.{Contents};
@@ -28,7 +27,7 @@ impl<K: ListName<BlobInfo>> Model for SeenFiles<K> {
     ghost view = { λ s. unwrap_or s.tie map.empty };
 }
 
-impl<K: ListName<BlobInfo>> SeenFiles<K> {
+impl<K: ListName<KnownFiles>> SeenFiles<K> {
     /// Nothing was seen.
     pub fn none() -> SeenFiles<K>
         ensures { result ≡ map.empty }
@@ -68,7 +67,7 @@ impl<K: ListName<BlobInfo>> SeenFiles<K> {
     }
 }
 
-impl<K: ListName<BlobInfo>> Stock<K> {
+impl<K: ListName<KnownFiles>> Stock<K> {
     /// Shows somebody all files so far. What was seen before is among them.
     pub fn show(&mut self, seen: &mut SeenFiles<K>)
         ensures same { self.new ≡ self.old }

@@ -5,7 +5,6 @@ ghost use Rattle.site_desk.specs.Snaps.{IsFromUploads};
 use change_log::Log;
 use change_undo::History;
 use seen_lists::Listed;
-use site_change::Entry;
 use site_state::State;
 use std::alloc::{AllocError, Global};
 use std::marker::Model;
@@ -32,8 +31,8 @@ impl Model for HostSnap {
     ghost invariant = { λ s. IsFromUploads s.history };
 }
 
-impl Listed<Entry> for HostSnap {
-    ghost items = { λ s. s.entries };
+impl Listed<Log> for HostSnap {
+    ghost item = { λ s. s.entries };
 }
 
 impl HostSnap {
@@ -59,7 +58,7 @@ impl HostSnap {
         self.history.log()
     }
 
-    /// The state: what the changes that no undo names give from nothing.
+    /// The state: what the changes that no undo names give from the base of the log.
     pub fn state(&self) -> &State
         ensures value { result.now ≡ self.now.state }
         ensures over { IsFromUploads self.now }

@@ -1,16 +1,17 @@
 -- Logs that begin with others, and looks that only grow.
 use Rattle.std.proofs.Common.{◌≡◌, ℕ, ◌≤◌, List, [], ◌∷◌, ◌++◌, length, drop, refl, sym, ap, ◌∙◌, arith, subst}
-use Rattle.std.proofs.lemmas.List.{append-nil, append_assoc, drop-append-le, drop_all, length_push}
+use Rattle.std.proofs.lemmas.List.{drop-append-le, drop_all, length_push}
 use Rattle.std.specs.List.{AllByRecursion}
-use Rattle.change_log.specs.Logs.{BeginsWith, Log}
+use Rattle.change_log.proofs.Longer.{with_both, with_none}
+use Rattle.change_log.specs.Logs.{BeginsWith, Log, with_entries}
 use Rattle.world_desk.specs.Visitors.{IsKeptTo, OnlyGrow, SeesInOrder, Watched, looked, taught}
 use Rattle.world_desk.proofs.Changing.{all_push, all_weaker}
 
 pub begins_itself : (log : Log) → BeginsWith log log
-begins_itself log = ([], sym (append-nil log))
+begins_itself log = ([], sym (with_none log))
 
 pub begins_further : (long mid short : Log) → BeginsWith long mid → BeginsWith mid short → BeginsWith long short
-begins_further long mid short more first = (first.0 ++ more.0, more.1 ∙ ap (λ xs. xs ++ more.0) first.1 ∙ append_assoc short first.0 more.0)
+begins_further long mid short more first = (first.0 ++ more.0, more.1 ∙ ap (λ (l : Log). with_entries l more.0) first.1 ∙ with_both short first.0 more.0)
 
 grow_push : (looks : List Log) (log : Log) → AllByRecursion (BeginsWith log) looks → OnlyGrow looks → OnlyGrow (looks ++ log ∷ [])
 grow_push [] log all grow = (tt, tt)

@@ -1,14 +1,17 @@
 -- Every step keeps a desk lawful.
-use Rattle.std.proofs.Common.{◌≡◌, ℕ, zero, suc, ◌+◌, ◌<◌, ◌≤◌, nat_lt, ◌==◌, Bool, true, false, ◌&&◌, List, [], ◌∷◌, ◌++◌, length, replicate, cond, refl, sym, ap, ◌∙◌, arith, subst}
+use Rattle.std.proofs.Common.{◌≡◌, ℕ, zero, suc, ◌+◌, ◌<◌, ◌≤◌, nat_lt, ◌==◌, Bool, true, false, ◌&&◌, List, [], ◌∷◌, ◌++◌, replicate, cond, refl, ap, ◌∙◌, arith, subst}
 use Rattle.std.proofs.lemmas.Bool.{and_parts}
 use Rattle.std.proofs.lemmas.Bool.Decides.{nat_tests}
-use Rattle.std.proofs.lemmas.List.{append-nil, append_assoc, length_push}
+use Rattle.std.specs.FinMap as map
 use Rattle.std.specs.List.{AllByRecursion}
 use Rattle.byte_view.specs.Contents.{Contents}
 use Rattle.site_change.specs.Changes.{IsWithin}
 use Rattle.site_change.specs.declared.entries.Entry.{Entry}
-use Rattle.change_undo.specs.Histories.{IsLegal, IsLegalAfter, is_allowed}
-use Rattle.change_log.specs.Logs.{Log}
+use Rattle.change_undo.proofs.Runs.{legal-entry}
+use Rattle.change_undo.specs.Histories.{IsLegal, is_allowed}
+use Rattle.change_log.proofs.Longer.{last_number-with_entry, with_both}
+use Rattle.change_log.proofs.Resolving.{base-empty}
+use Rattle.change_log.specs.Logs.{Log, empty_log, last_number, with_entry}
 use Rattle.world_desk.specs.Visitors.{SeesInOrder, looked, taught, unseen}
 use Rattle.world_desk.specs.Desks.{Ask, DeskState, DeskStep, Enter, IsLawful, Learn, Publish, Upload, after_all, asked, happens, is_published, is_taken, start, with_upload}
 use Rattle.world_desk.proofs.Changing.{all_changed, all_weaker, uploads_stay}
@@ -18,25 +21,19 @@ use Rattle.world_desk.proofs.Beginnings.{begins_itself, sees_later, sees_look, s
 abbrev pub Outlasts : Type 0
 Outlasts = (uploads more : Contents) (log : Log) → IsWithin uploads more → IsLegal uploads log → IsLegal more log
 
-legal_push : (uploads : Contents) (before : Log) (entries : List Entry) (e : Entry) → IsLegalAfter uploads before entries → is_allowed uploads (before ++ entries) e ≡ true
-    → IsLegalAfter uploads before (entries ++ e ∷ [])
-legal_push uploads before [] e legal allowed = (ap (λ es. is_allowed uploads es e) (sym (append-nil before)) ∙ allowed, tt)
-legal_push uploads before (x ∷ entries) e legal allowed =
-    (legal.0, legal_push uploads (before ++ x ∷ []) entries e legal.1 (ap (λ es. is_allowed uploads es e) (append_assoc before (x ∷ []) entries) ∙ allowed))
-
 asked_lawful : (d : DeskState) (e : Entry) (taken : Bool) → (is_published d && is_taken d e) ≡ taken → IsLawful d
-    → IsLawful (cond taken (record d { log = d.log ++ e ∷ [] }) d)
+    → IsLawful (cond taken (record d { log = with_entry d.log e }) d)
 asked_lawful d e false is lawful = lawful
 asked_lawful d e true is lawful =
     let both = and_parts (is_published d) (is_taken d e) is in
-    let parts = and_parts (nat_lt (length d.log) d.limit) (is_allowed d.uploads d.log e) both.1 in
-    let room : length d.log < d.limit = let test = parts.0 in grind (arith, nat_tests) in
-    let same : length d.shown ≡ length d.log = let test = both.0 in grind (arith, nat_tests) in
-    let more : length (d.log ++ e ∷ []) ≡ length d.log + 1 = length_push d.log e in
+    let parts = and_parts (nat_lt (last_number d.log) d.limit) (is_allowed d.uploads d.log e) both.1 in
+    let room : last_number d.log < d.limit = let test = parts.0 in grind (arith, nat_tests) in
+    let same : last_number d.shown ≡ last_number d.log = let test = both.0 in grind (arith, nat_tests) in
+    let more : last_number (with_entry d.log e) ≡ last_number d.log + 1 = last_number-with_entry d.log e in
     record {
-      legal = legal_push d.uploads [] d.log e lawful.legal parts.1;
+      legal = legal-entry d.uploads d.log e lawful.legal parts.1;
       room = omega arith;
-      shown = (lawful.shown.0 ++ e ∷ [], ap (λ es. es ++ e ∷ []) lawful.shown.1 ∙ append_assoc d.shown lawful.shown.0 (e ∷ []));
+      shown = (lawful.shown.0 ++ e ∷ [], ap (λ (l : Log). with_entry l e) lawful.shown.1 ∙ with_both d.shown lawful.shown.0 (e ∷ []));
       at_most_one = omega arith;
       seen = lawful.seen;
     }
@@ -72,12 +69,12 @@ step_lawful outlasts d (Upload bytes) lawful = record {
   seen = lawful.seen;
 }
 
-all_unseen : (n : ℕ) → AllByRecursion (SeesInOrder []) (replicate n unseen)
+all_unseen : (n : ℕ) → AllByRecursion (SeesInOrder empty_log) (replicate n unseen)
 all_unseen zero = tt
 all_unseen (suc n) = (record { were_shown = tt; grow = tt; kept = tt }, all_unseen n)
 
 pub start_lawful : (limit visitors : ℕ) → IsLawful (start limit visitors)
-start_lawful limit visitors = record { legal = tt; room = omega arith; shown = begins_itself []; at_most_one = omega arith; seen = all_unseen visitors }
+start_lawful limit visitors = record { legal = (base-empty map.empty, tt); room = omega arith; shown = begins_itself empty_log; at_most_one = omega arith; seen = all_unseen visitors }
 
 all_lawful : Outlasts → (steps : List DeskStep) (d : DeskState) → IsLawful d → IsLawful (after_all steps d)
 all_lawful outlasts [] d lawful = lawful

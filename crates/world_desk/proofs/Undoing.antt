@@ -1,6 +1,5 @@
 -- What the undo of a change does at a desk.
-use Rattle.std.proofs.Common.{◌≡◌, ℕ, ◌<◌, ◌≤◌, nat_lt, nat_le, Bool, true, false, not, ◌&&◌, cond, List, [], ◌∷◌, ◌++◌, length, Option, Some, None, is_none, refl, sym, ap, ◌∙◌, arith, subst}
-use Rattle.std.specs.FinMap as map
+use Rattle.std.proofs.Common.{◌≡◌, ℕ, ◌+◌, ◌<◌, ◌≤◌, nat_lt, nat_le, Bool, true, false, not, ◌&&◌, cond, List, [], ◌∷◌, ◌++◌, Option, Some, None, is_none, refl, sym, ap, ◌∙◌, arith, subst}
 use Rattle.std.specs.Cmp.Lexicographic.{bytes_decides}
 use Rattle.std.proofs.lemmas.Bool.Decides.{nat_tests}
 use Rattle.host_names.specs.declared.cells.Cell.{Cell}
@@ -14,7 +13,7 @@ use Rattle.site_change.specs.Changes.{run_from, site_of_command}
 use Rattle.change_undo.specs.Clashes.{ChangesAt, TouchesAt, clash}
 use Rattle.site_change.specs.declared.entries.Entry.{Entry}
 use Rattle.site_change.specs.declared.entries.Entry.TheVariants as entry
-use Rattle.change_undo.specs.Histories.{IsLegal, change_refusal, entry_at, is_among, live_changes, refusal_at, run, same_site, undo_refusal, undone as undone_in}
+use Rattle.change_undo.specs.Histories.{IsLegal, base_state, change_refusal, entry_at, is_among, live_changes, refusal_at, run, same_site, undo_refusal, undone as undone_in}
 use Rattle.change_undo.specs.Live.{without}
 use Rattle.change_log.specs.Logs.{Log, last_number, with_entry}
 use Rattle.change_undo.proofs.Live.{live_changes-undo, live_from-rising}
@@ -47,7 +46,7 @@ none_of limit n reason e = elim (nat_le limit n) as (λ b. cond b (Some HistoryF
 does : (d : DeskState) (site : SiteName) (k : ℕ) (is : Bool) → is_published d ≡ true → is_none (undo_refusal d.uploads d.limit d.log site k) ≡ is
     → happens d (Ask (entry.Undo site k)) ≡ cond is (record d { log = with_entry d.log (entry.Undo site k) }) d
 does d site k is published none =
-    let test : is_taken d (entry.Undo site k) ≡ is = taken d.limit (length d.log) (change_refusal d.uploads d.log site k) (nat_le d.limit (length d.log)) refl ∙ none in
+    let test : is_taken d (entry.Undo site k) ≡ is = taken d.limit (last_number d.log) (change_refusal d.uploads d.log site k) (nat_le d.limit (last_number d.log)) refl ∙ none in
     ap (λ b. cond (b && is_taken d (entry.Undo site k)) (record d { log = with_entry d.log (entry.Undo site k) }) d) published
     ∙ ap (λ b. cond b (record d { log = with_entry d.log (entry.Undo site k) }) d) test
 
@@ -55,11 +54,11 @@ undone : Allowed → (d : DeskState) (site : SiteName) (k : ℕ) → IsLawful d 
     → IsUndone reason site k d (happens d (Ask (entry.Undo site k)))
 undone allowed d site k lawful published (Some reason) is = does d site k false published (ap is_none is)
 undone allowed d site k lawful published None is =
-    let it = allowed d.uploads d.log site k lawful.legal (none_of d.limit (length d.log) (change_refusal d.uploads d.log site k) is) in
+    let it = allowed d.uploads d.log site k lawful.legal (none_of d.limit (last_number d.log) (change_refusal d.uploads d.log site k) is) in
     subst (LeavesOut site k d) (sym (does d site k true published (ap is_none is))) (record {
       state = it.0;
       now = it.1;
-      without_it = ap (run_from d.uploads map.empty) (sym (live_changes-undo d.log site k)) ∙ it.1;
+      without_it = ap (run_from d.uploads (base_state d.uploads d.log)) (sym (live_changes-undo d.log site k)) ∙ it.1;
       others = live_changes-undo d.log site k;
       same = refl;
     })
@@ -73,17 +72,19 @@ undoes_or_refuses allowed d site k lawful published = undone allowed d site k la
 untouched_by : (uploads : Contents) (log : Log) (k j : ℕ) (at : Cell) → clash uploads log k ≡ None → k < j → ChangesAt uploads log k at → TouchesAt uploads log j at → ⊥
 untouched_by uploads log k j at none later changed touched =
     let live = live_changes log in
-    let rising = live_from-rising (undone_in log) 1 log in
-    no_clash uploads 1 k j changed.command touched.command map.empty changed.state touched.state at live rising none
-    (placed uploads 1 k changed.command map.empty changed.state live rising changed.lives changed.place)
-    (placed uploads 1 j touched.command map.empty touched.state live rising touched.lives touched.place) later changed.changed touched.touched
+    let low : ℕ = log.base + 1 in
+    let start = base_state uploads log in
+    let rising = live_from-rising (undone_in log.entries) low log.entries in
+    no_clash uploads low k j changed.command touched.command start changed.state touched.state at live rising none
+    (placed uploads low k changed.command start changed.state live rising changed.lives changed.place)
+    (placed uploads low j touched.command start touched.state live rising touched.lives touched.place) later changed.changed touched.touched
 
 -- the entry is a change of the site, which no undo names
 record IsNamed (log : Log) (site : SiteName) (k : ℕ) (found : Option Entry) : Type 0 where
   command : Command
   there : found ≡ Some (entry.Change command)
   own : same_site (site_of_command command) site ≡ true
-  lives : is_among (undone_in log) k ≡ false
+  lives : is_among (undone_in log.entries) k ≡ false
 
 negated : (b : Bool) → not b ≡ false → b ≡ true
 negated true e = refl
@@ -94,7 +95,7 @@ named_at uploads log site k None h = cc h
 named_at uploads log site k (Some (entry.Undo other j)) h = cc (guard (same_site other site) NotAChange (Some NoSuchChange) h).1
 named_at uploads log site k (Some (entry.Change command)) h =
     let at_site = guard (not (same_site (site_of_command command) site)) NoSuchChange _ h in
-    let live = guard (is_among (undone_in log) k) AlreadyUndone _ at_site.1 in
+    let live = guard (is_among (undone_in log.entries) k) AlreadyUndone _ at_site.1 in
     record { command = command; there = refl; own = negated _ at_site.0; lives = live.0 }
 
 one_site : (a b : SiteName) → same_site a b ≡ true → a ≡ b

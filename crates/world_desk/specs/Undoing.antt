@@ -1,6 +1,5 @@
 -- What the undo of a change does at a desk.
 use Rattle.std.specs.Prelude.{◌≡◌, ℕ, ◌<◌, Option, Some, None, true}
-use Rattle.std.specs.FinMap as map
 use Rattle.std.specs.List.{Contains}
 use Rattle.host_names.specs.declared.cells.Cell.{Cell}
 use Rattle.host_names.specs.declared.names.SiteName.{SiteName}
@@ -10,7 +9,7 @@ use Rattle.site_change.specs.declared.commands.Command.{Command}
 use Rattle.site_change.specs.declared.refusals.ChangeRefusal.{ChangeRefusal}
 use Rattle.change_undo.specs.Clashes.{ChangesAt, TouchesAt}
 use Rattle.site_change.specs.declared.entries.Entry.TheVariants as entry
-use Rattle.change_undo.specs.Histories.{live_changes, run, undo_refusal}
+use Rattle.change_undo.specs.Histories.{base_state, live_changes, run, undo_refusal}
 use Rattle.change_undo.specs.Live.{without}
 use Rattle.change_log.specs.Logs.{last_number, with_entry}
 use Rattle.world_desk.specs.Desks.{Ask, DeskState, happens, is_published}
@@ -37,7 +36,7 @@ pub record IsFree (d : DeskState) (site : SiteName) (k : ℕ) : Type 0 where
 pub record LeavesOut (site : SiteName) (k : ℕ) (old new : DeskState) : Type 0 where
   pub state : State
   pub now : run new.uploads new.log ≡ Some state
-  pub without_it : run_from old.uploads map.empty (without k (live_changes old.log)) ≡ Some state
+  pub without_it : run_from old.uploads (base_state old.uploads old.log) (without k (live_changes old.log)) ≡ Some state
   pub others : live_changes new.log ≡ without k (live_changes old.log)
   pub same : new ≡ record old { log = with_entry old.log (entry.Undo site k) }
 

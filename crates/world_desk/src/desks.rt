@@ -34,13 +34,13 @@ impl Model for Desk {
     ghost use Rattle.std.specs.Coded.{coded_list, coded_ℕ};
     ghost use Rattle.std.specs.FinMap as map;
     ghost use Rattle.host_names.specs.Digests.{coded_digest};
-    ghost use Rattle.site_change.specs.contracts.entries.Entry as entry;
+    ghost use Rattle.change_log.specs.contracts.logs.Log as logs;
     ghost use Rattle.change_undo.specs.Plans.{IsHistoryOver};
     ghost use Rattle.world_desk.specs.Desks.{DeskState, coded_desk};
 
     ghost Value = { DeskState };
 
-    ghost coded = { coded_desk (map.code coded_digest (coded_list coded_ℕ)) (coded_list entry.the_row.coded) };
+    ghost coded = { coded_desk (map.code coded_digest (coded_list coded_ℕ)) logs.the_row.coded };
 
     ghost view = { λ d. record {
       limit = d.history.limit;

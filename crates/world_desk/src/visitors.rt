@@ -25,13 +25,12 @@ pub(crate) struct Visitor {
 }
 
 impl Model for Visitor {
-    ghost use Rattle.std.specs.Coded.{coded_list};
-    ghost use Rattle.site_change.specs.contracts.entries.Entry as entry;
+    ghost use Rattle.change_log.specs.contracts.logs.Log as logs;
     ghost use Rattle.world_desk.specs.Visitors.{Watched, coded_watched};
 
     ghost Value = { Watched };
 
-    ghost coded = { coded_watched (coded_list entry.the_row.coded) };
+    ghost coded = { coded_watched logs.the_row.coded };
 
     ghost view = { λ v. record { looks = v.looks.items; told = v.told.items } };
 }

@@ -4,14 +4,14 @@
 use crate::desk::gates::Gate;
 use crate::desk::scripts::Upload;
 use blob_store::{LockedAccess, Shelf};
-use byte_view::BlobInfo;
+use change_log::Log;
 use host_disk::Disk;
 use host_names::Digest;
 use left_right::Absorb;
 use seen_lists::{Front, ListName};
 use shared_desk::Desk;
 use site_change::Entry;
-use site_desk::{DeskError, DeskName, Notice, Seat, SeenFiles, UploadError};
+use site_desk::{DeskError, DeskName, KnownFiles, Notice, Seat, SeenFiles, UploadError};
 use std::alloc::AllocError;
 use std::sync::Wait;
 
@@ -27,7 +27,7 @@ pub(crate) trait AskedDesk<J: DeskName> {
     fn enter<W: Wait>(
         &self,
         rt: &W,
-        seen: &mut Front<Entry, J>,
+        seen: &mut Front<Log, J>,
         seat: &mut Seat<J>,
         entry: Entry,
     ) -> Entered<J>;
@@ -36,14 +36,14 @@ pub(crate) trait AskedDesk<J: DeskName> {
     fn upload<W: Wait>(
         &self,
         rt: &W,
-        seen: &mut Front<Entry, J>,
+        seen: &mut Front<Log, J>,
         seat: &mut Seat<J>,
         number: u64,
         upload: &Upload,
     ) -> Uploaded<J>;
 
     /// The receipt of all entries, if there is memory for it. It tells them.
-    fn last<W: Wait>(&self, rt: &W, seen: &mut Front<Entry, J>) -> Result<Notice<J>, AllocError>;
+    fn last<W: Wait>(&self, rt: &W, seen: &mut Front<Log, J>) -> Result<Notice<J>, AllocError>;
 
     /// Reads the chunk of these bytes. Tells whether it has them, and how many calls have come to the gate by then.
     fn read<W: Wait>(&self, rt: &W, gate: &Gate, bytes: &[u8]) -> (bool, u64);
@@ -54,16 +54,16 @@ pub(crate) trait AskedDesk<J: DeskName> {
 
 impl<
     J: DeskName,
-    K: ListName<BlobInfo>,
+    K: ListName<KnownFiles>,
     D: Disk,
     S: Shelf,
-    T: Absorb<Notice<J>, State = [Entry; 0]> + Drop,
+    T: Absorb<Notice<J>, State = Log> + Drop,
     R: Wait + Drop,
 > AskedDesk<J> for Desk<J, K, D, S, T, R> {
     fn enter<W: Wait>(
         &self,
         rt: &W,
-        seen: &mut Front<Entry, J>,
+        seen: &mut Front<Log, J>,
         seat: &mut Seat<J>,
         entry: Entry,
     ) -> Entered<J> {
@@ -76,7 +76,7 @@ impl<
     fn upload<W: Wait>(
         &self,
         rt: &W,
-        seen: &mut Front<Entry, J>,
+        seen: &mut Front<Log, J>,
         seat: &mut Seat<J>,
         number: u64,
         upload: &Upload,
@@ -99,7 +99,7 @@ impl<
         }
     }
 
-    fn last<W: Wait>(&self, rt: &W, seen: &mut Front<Entry, J>) -> Result<Notice<J>, AllocError> {
+    fn last<W: Wait>(&self, rt: &W, seen: &mut Front<Log, J>) -> Result<Notice<J>, AllocError> {
         self.shown(rt, seen)
     }
 

@@ -6,15 +6,15 @@ use anyhow::{Result, anyhow};
 use blob_store::UploadFault;
 use change_log::Log;
 use host_names::{Digest, FilePath, SiteName};
-use seen_lists::Visitor;
+use seen_lists::{Front, Visitor};
 use site_change::{ChangeRefusal, Command, Entry};
-use site_desk::{DeskError, DeskName, HostSnap, Notice, Seat, UploadError};
+use site_desk::{DeskError, DeskName, HostSnap, Notice, Seat, UploadError, number_of};
 use std::alloc::Global;
 use std::io::Print;
 use std::sync::Wait;
 
 /// Who looks at what is shown of a desk.
-pub(crate) type Reader<J> = Visitor<Entry, J, HostSnap>;
+pub(crate) type Reader<J> = Visitor<Log, J, HostSnap>;
 
 /// What a desk answers. Numbers are those of last entries: of the receipt, and of the log that a refusal is of.
 #[derive(Debug, Drop)]
@@ -72,10 +72,15 @@ fn words_of(alloc: Global, log: &Log) -> Result<String> {
     Ok(words)
 }
 
+/// Whether two fronts are of the same entries.
+fn are_same<J: DeskName>(one: &Front<Log, J>, other: &Front<Log, J>) -> bool {
+    one.reaches(other) && other.reaches(one)
+}
+
 impl<J: DeskName> Deployer<J> {
     /// Learns a receipt, and tells its number.
     fn learn(&mut self, receipt: Notice<J>) -> u64 {
-        let number = receipt.number();
+        let number = number_of(&receipt);
         self.reader.learn(receipt);
         number
     }
@@ -161,8 +166,8 @@ impl<J: DeskName> Deployer<J> {
         let Ok(receipt) = desk.last(rt, &mut seen) else {
             return Err(anyhow!("a receipt has no memory"));
         };
-        let shown = self.reader.front().len();
-        if receipt.number() != shown || seen.len() != shown {
+        let shown = self.reader.front();
+        if !are_same(receipt.front(), &shown) || !are_same(&seen, &shown) {
             return Err(anyhow!("the desk has other entries than it shows"));
         }
         Ok(())

@@ -1,6 +1,5 @@
 //! A desk is opened over what is found in a store, and the lines are played at it.
 ghost use Rattle.std.specs.Prelude.{◌≡◌, IfOk, IfSome};
-ghost use Rattle.shared_desk.specs.FoundFiles.{files_of};
 ghost use Rattle.shared_desk.specs.NewDesks.{AreNames};
 
 use crate::desk::Store;
@@ -10,15 +9,14 @@ use crate::desk::played::{Play, play_and_close};
 use crate::desk::scripts::DEPLOYERS;
 use anyhow::{Result, anyhow};
 use blob_store::Shelf;
-use byte_view::BlobInfo;
+use change_log::Log;
 use change_undo::GREATEST_LIMIT;
 use found_host::Found;
 use host_disk::Disk;
 use left_right::Absorb;
 use seen_lists::ListName;
 use shared_desk::{Desk, NewDesk, open};
-use site_change::Entry;
-use site_desk::{DeskName, Notice, Seats};
+use site_desk::{DeskName, KnownFiles, Notice, Seats};
 use std::alloc::{AllocError, Global};
 use std::io::Print;
 use std::marker::Brand;
@@ -36,10 +34,10 @@ fn boxed<T: Drop>(alloc: Global, value: T) -> Result<Box<T>, AllocError> {
 /// Plays the lines at an open desk, and closes it. It knows no type of what is shown, so the proof that threads may share a desk holds for any.
 fn play_over<
     J: DeskName + Send + Sync,
-    K: ListName<BlobInfo> + Send + Sync,
+    K: ListName<KnownFiles> + Send + Sync,
     D: Disk + Drop + Send,
     S: Shelf + Drop + Send,
-    T: Absorb<Notice<J>, State = [Entry; 0]> + Drop + Send + Sync,
+    T: Absorb<Notice<J>, State = Log> + Drop + Send + Sync,
     R: Wait + Drop + Send + Sync,
     W: Threads + Wait + Print + Sync,
 >(
@@ -56,7 +54,7 @@ fn play_over<
 /// Plays at the desk of what is found, and closes it. If there is no memory for the desk, hands back what is found.
 fn play_at<
     J: DeskName + Send + Sync,
-    K: ListName<BlobInfo> + Send + Sync,
+    K: ListName<KnownFiles> + Send + Sync,
     D: Disk + Drop + Send,
     S: Shelf + Drop + Send,
     R: Wait + Drop + Send + Sync,
@@ -71,7 +69,7 @@ fn play_at<
 ) -> Result<Option<Found<D, S>>>
     requires names { AreNames J.name J.parts J.book K.book new }
     requires entries { J.found ≡ found.journal.entries }
-    requires uploads { K.found ≡ files_of found.store.known }
+    requires uploads { K.found ≡ found.store.known }
     requires limit { found.limit ≡ 1000000 }
     ensures { IfOk result (λ left. IfSome left (λ back. back ≡ found)) }
 {

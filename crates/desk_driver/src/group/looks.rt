@@ -1,14 +1,14 @@
 //! Looks at a list, as a worker looks at a desk, and further owners of what a look shows.
-ghost use Rattle.std.specs.Prelude.{◌≡◌, [], IfOk};
-ghost use Rattle.left_right.specs.Handles.{pending, published};
+ghost use Rattle.std.specs.Prelude.{◌≡◌, IfOk};
 
 use crate::group::Measured;
 use crate::group::thread_reads::{Looker, time_threads};
 use anyhow::{Result, anyhow};
+use growing::Growing;
 use left_right::WriteHandle;
 use seen_lists::{ListName, Listed, NewList, Receipt, SeenList, Shown, Visitor};
 use std::alloc::{AllocError, Global};
-use std::marker::Brand;
+use std::marker::{Brand, Model};
 use std::sync::{Arc, Wait};
 use std::thread::Threads;
 use std::time::{Clock, Instant};
@@ -22,15 +22,45 @@ struct Items {
     items: Vec<u64>,
 }
 
-impl Listed<u64> for Items {
-    ghost items = { λ snap. snap.items.items };
+/// How many items there are. Nothing is pushed, so which is later doesn't matter.
+#[derive(Drop)]
+struct Count {
+    count: u64,
+}
+
+impl Model for Count {
+    ghost use Rattle.std.specs.Prelude.{ℕ};
+
+    ghost Value = { ℕ };
+
+    ghost view = { λ c. c.count };
+}
+
+impl Growing for Count {
+    ghost is_later = { λ old new. Unit {0} };
+
+    ghost itself = { λ count. tt };
+
+    ghost goes_on = { λ first mid last one other. tt };
+}
+
+impl ListName<Count> for Brand {
+    ghost book = { record { number = 0; log_name = 0; cells_name = 0 } };
+
+    ghost found = { 0 };
+}
+
+impl Listed<Count> for Items {
+    ghost use Rattle.std.specs.Prelude.{length};
+
+    ghost item = { λ snap. length snap.items.items };
 }
 
 /// Who looks.
-type Reader<L> = Visitor<u64, L, Items>;
+type Reader<L> = Visitor<Count, L, Items>;
 
 /// Who shows it.
-type Writer<L, R> = WriteHandle<Shown<u64, L, Items>, Receipt<u64, L, Items>, R>;
+type Writer<L, R> = WriteHandle<Shown<Count, L, Items>, Receipt<Count, L, Items>, R>;
 
 /// What is measured.
 #[derive(Clone, Copy)]
@@ -44,15 +74,15 @@ pub(crate) enum OfLooks {
 }
 
 /// Looks once.
-fn look<L: ListName<u64>>(reader: &mut Reader<L>) -> Result<Arc<Items>> {
+fn look<L: ListName<Count>>(reader: &mut Reader<L>) -> Result<Arc<Items>> {
     match reader.look() {
         Ok(snap) => Ok(snap),
         Err(_) => Err(anyhow!("a look has no memory")),
     }
 }
 
-impl<L: ListName<u64> + Send + Sync> Looker for Visitor<u64, L, Items> {
-    fn again(&self) -> Result<Visitor<u64, L, Items>> {
+impl<L: ListName<Count> + Send + Sync> Looker for Visitor<Count, L, Items> {
+    fn again(&self) -> Result<Visitor<Count, L, Items>> {
         Ok(Visitor::again(self)?)
     }
 
@@ -68,7 +98,7 @@ fn counted(snap: &Items) -> u64 {
 }
 
 /// Looks so often, and counts the looks with the items that they show.
-fn look_often<L: ListName<u64>>(reader: &mut Reader<L>, looks: u64) -> Result<u64> {
+fn look_often<L: ListName<Count>>(reader: &mut Reader<L>, looks: u64) -> Result<u64> {
     let mut sum = 0u64;
     for _ in 0..looks {
         let snap = look(reader)?;
@@ -88,7 +118,7 @@ fn own_often(snap: &Arc<Items>, times: u64) -> Result<u64, AllocError> {
 }
 
 /// The time of so many looks.
-fn time_looks<L: ListName<u64>, R: Clock>(
+fn time_looks<L: ListName<Count>, R: Clock>(
     rt: &R,
     reader: &mut Reader<L>,
     looks: u64,
@@ -112,12 +142,12 @@ fn time_owners<R: Clock>(rt: &R, snap: &Arc<Items>, times: u64) -> Result<Measur
 }
 
 /// The receipt of no items.
-fn empty_receipt<L: ListName<u64>>(
+fn empty_receipt<L: ListName<Count>>(
     alloc: Global,
-    list: &SeenList<u64, L>,
-) -> Result<Receipt<u64, L, Items>, AllocError>
-    requires { list.now ≡ [] }
-    ensures { IfOk result (λ receipt. receipt ≡ []) }
+    list: &SeenList<Count, L>,
+) -> Result<Receipt<Count, L, Items>, AllocError>
+    requires { list.now.now ≡ 0 }
+    ensures { IfOk result (λ receipt. receipt ≡ 0) }
 {
     let items = Items {
         items: Vec::new(alloc),
@@ -126,10 +156,10 @@ fn empty_receipt<L: ListName<u64>>(
 }
 
 /// Shows a receipt.
-fn show<L: ListName<u64>, R: Wait + Drop>(
+fn show<L: ListName<Count>, R: Wait + Drop>(
     alloc: Global,
     rt: R,
-    receipt: &Receipt<u64, L, Items>,
+    receipt: &Receipt<Count, L, Items>,
 ) -> Result<Writer<L, R>, AllocError> {
     let one = Shown::of(receipt.again()?);
     let other = Shown::of(receipt.again()?);
@@ -137,23 +167,23 @@ fn show<L: ListName<u64>, R: Wait + Drop>(
 }
 
 /// A reader of what a writer shows, which begins with a receipt.
-fn reader_of<L: ListName<u64>, R: Wait + Drop>(
+fn reader_of<L: ListName<Count>, R: Wait + Drop>(
     writer: &Writer<L, R>,
-    first: &Receipt<u64, L, Items>,
+    first: &Receipt<Count, L, Items>,
 ) -> Result<Reader<L>, AllocError> {
     Ok(Visitor::of(writer.handle()?, first.again()?))
 }
 
 /// Shows an empty list, and gives its writer and a reader.
-fn show_empty<L: ListName<u64>, R: Wait + Drop>(
+fn show_empty<L: ListName<Count>, R: Wait + Drop>(
     alloc: Global,
     rt: R,
-    new: NewList<u64>,
+    new: NewList<Count>,
 ) -> Result<(Writer<L, R>, Reader<L>), AllocError>
     requires book { new ≡ L.book }
-    requires found { L.found ≡ [] }
+    requires found { L.found ≡ 0 }
 {
-    let list = new.named::<L>(0);
+    let list = new.named::<L>();
     let first = empty_receipt(alloc, &list)?;
     let writer = show(alloc, rt, &first)?;
     let reader = reader_of(&writer, &first)?;
@@ -161,7 +191,7 @@ fn show_empty<L: ListName<u64>, R: Wait + Drop>(
 }
 
 /// Makes the measurement by a reader.
-fn time_by<L: ListName<u64> + Send + Sync, R: Threads + Wait + Clock + Sync>(
+fn time_by<L: ListName<Count> + Send + Sync, R: Threads + Wait + Clock + Sync>(
     rt: &R,
     alloc: Global,
     reader: &mut Reader<L>,
@@ -176,15 +206,15 @@ fn time_by<L: ListName<u64> + Send + Sync, R: Threads + Wait + Clock + Sync>(
 }
 
 /// Makes the measurement at a list without items.
-fn time_named<L: ListName<u64> + Send + Sync, R: Threads + Wait + Clock + Sync>(
+fn time_named<L: ListName<Count> + Send + Sync, R: Threads + Wait + Clock + Sync>(
     rt: &R,
     alloc: Global,
-    new: NewList<u64>,
+    new: NewList<Count>,
     wanted: OfLooks,
     count: u64,
 ) -> Result<Measured>
     requires book { new ≡ L.book }
-    requires found { L.found ≡ [] }
+    requires found { L.found ≡ 0 }
 {
     // While the writer stays there is something to look at.
     let (_writer, mut reader) = show_empty::<L, &R>(alloc, rt, new)?;

@@ -1,55 +1,58 @@
 //! Lists that grow, on one thread and under a lock, and fronts of them.
-ghost use Rattle.std.specs.Prelude.{◌≡◌, ◌+◌, ◌<◌, ◌∷◌, [], length};
+ghost use Rattle.std.specs.Prelude.{◌≡◌, ◌+◌, ◌<◌};
 
-use seen_lists::{Front, ListName, NewList, SeenList};
+use crate::tests::numbers::{Counter, Number};
+use seen_lists::{Front, ListName, NewList};
 use std::marker::Brand;
 use std::process::Abort;
 use std::sync::{Mutex, Wait};
 use std::test::Fail;
 use std::thread::{Threads, join};
 
-/// How many items a front has before and after it learns of a push.
-fn learn<L: ListName<u64>>(list: &mut SeenList<u64, L>) -> (u64, u64)
-    requires { length list.old < 9 }
-    ensures { length list.new ≡ length list.old + 1 }
+/// Whether a front is as late as the list after a push, before it learns of that and then.
+fn learn<L: ListName<Number>>(counter: &mut Counter<L>) -> (bool, bool)
+    requires { counter.old < 9 }
+    ensures { counter.new ≡ counter.old + 1 }
 {
-    let mut front = list.front();
-    list.push(&7);
-    let before = front.len();
-    front.learn(&list.front());
-    (before, front.len())
+    let mut front = counter.list().front();
+    counter.push();
+    let whole = counter.list().front();
+    let before = front.reaches(&whole);
+    front.learn(&whole);
+    (before, front.reaches(&whole))
 }
 
-/// How many items a list has after a push, and a front of it that is told.
-fn tell<L: ListName<u64>>(list: &mut SeenList<u64, L>) -> (u64, u64)
-    requires { length list.old < 9 }
-    ensures { length list.new ≡ length list.old + 1 }
+/// How many items a list has after a push, and whether a front of it that is told is as late.
+fn tell<L: ListName<Number>>(counter: &mut Counter<L>) -> (u64, bool)
+    requires { counter.old < 9 }
+    ensures { counter.new ≡ counter.old + 1 }
 {
-    let mut front = list.front();
-    list.push(&8);
-    list.tell(&mut front);
-    (list.len(), front.len())
+    let mut front = counter.list().front();
+    counter.push();
+    counter.tell(&mut front);
+    let list = counter.list();
+    (list.len(), front.reaches(&list.front()))
 }
 
 /// Whether a front goes over to an older one, and an older one to it.
-fn follow<L: ListName<u64>>(list: &mut SeenList<u64, L>) -> (bool, bool)
-    requires { length list.old < 9 }
-    ensures { length list.new ≡ length list.old + 1 }
+fn follow<L: ListName<Number>>(counter: &mut Counter<L>) -> (bool, bool)
+    requires { counter.old < 9 }
+    ensures { counter.new ≡ counter.old + 1 }
 {
-    let mut old = list.front();
-    list.push(&9);
-    let mut new = list.front();
+    let mut old = counter.list().front();
+    counter.push();
+    let mut new = counter.list().front();
     (new.follow(&old), old.follow(&new))
 }
 
-fn grow<L: ListName<u64>>(rt: &impl Abort, new: NewList<u64>) -> Result<(), Fail>
+fn grow<L: ListName<Number>>(rt: &impl Abort, new: NewList<Number>) -> Result<(), Fail>
     requires book { new ≡ L.book }
-    requires found { L.found ≡ 5 ∷ [] }
+    requires found { L.found ≡ 0 }
 {
-    let mut list = new.named::<L>(1);
-    assert_eq!(rt; learn(&mut list), (1, 2));
-    assert_eq!(rt; tell(&mut list), (3, 3));
-    assert_eq!(rt; follow(&mut list), (false, true));
+    let mut counter = Counter::<L>::of(new);
+    assert_eq!(rt; learn(&mut counter), (false, true));
+    assert_eq!(rt; tell(&mut counter), (2, true));
+    assert_eq!(rt; follow(&mut counter), (false, true));
     Ok(())
 }
 
@@ -59,42 +62,41 @@ fn fronts_grow_and_do_not_go_back(rt: HostRuntime) -> Result<(), Fail> {
 }
 
 /// Pushes an item under the lock, and takes the front that has it.
-fn push<L: ListName<u64>, R: Wait>(
+fn push<L: ListName<Number>, R: Wait>(
     rt: &R,
-    list: &Mutex<SeenList<u64, L>>,
-    item: u64,
-) -> Option<Front<u64, L>> {
-    let mut list = list.lock(rt);
-    if list.len() > 9 {
+    counter: &Mutex<Counter<L>>,
+) -> Option<Front<Number, L>> {
+    let mut counter = counter.lock(rt);
+    if counter.list().len() > 7 {
         return None;
     }
-    list.push(&item);
-    Some(list.front())
+    counter.push();
+    Some(counter.list().front())
 }
 
-/// How many items the shorter front has, and how many the first has once it learns of the other.
-fn learn_both<L: ListName<u64>>(
-    one: Option<Front<u64, L>>,
-    other: Option<Front<u64, L>>,
-) -> Option<(u64, u64)> {
+/// Whether just one of the two is as late as the other, and whether the first is once it learns of the other.
+fn learn_both<L: ListName<Number>>(
+    one: Option<Front<Number, L>>,
+    other: Option<Front<Number, L>>,
+) -> Option<(bool, bool)> {
     let mut one = one?;
     let other = other?;
-    let shorter = one.len().min(other.len());
+    let apart = one.reaches(&other) != other.reaches(&one);
     one.learn(&other);
-    Some((shorter, one.len()))
+    Some((apart, one.reaches(&other)))
 }
 
 /// Two threads push an item each.
-fn push_both<L: ListName<u64> + Send + Sync, R: Threads + Wait + Abort + Sync>(
+fn push_both<L: ListName<Number> + Send + Sync, R: Threads + Wait + Abort + Sync>(
     rt: &R,
-    new: NewList<u64>,
+    new: NewList<Number>,
 ) -> Result<(), Fail>
     requires book { new ≡ L.book }
-    requires found { L.found ≡ [] }
+    requires found { L.found ≡ 0 }
 {
-    let list = Mutex::new(new.named::<L>(0));
-    let (one, other) = join(rt, || push(rt, &list, 1), || push(rt, &list, 2));
-    assert_eq!(rt; learn_both(one, other), Some((1, 2)));
+    let counter = Mutex::new(Counter::<L>::of(new));
+    let (one, other) = join(rt, || push(rt, &counter), || push(rt, &counter));
+    assert_eq!(rt; learn_both(one, other), Some((true, true)));
     Ok(())
 }
 

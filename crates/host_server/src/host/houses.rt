@@ -43,15 +43,14 @@ pub struct SoloHouse {
 }
 
 impl Model for SoloHouse {
-    ghost use Rattle.std.specs.Coded.{coded_list};
-    ghost use Rattle.site_change.specs.contracts.entries.Entry as entry;
+    ghost use Rattle.change_log.specs.contracts.logs.Log as log;
     ghost use Rattle.blob_store.specs.contracts.blob_indexes.BlobIndex as known;
     ghost use Rattle.host_server.specs.Hosts.{Host, host_of, coded_host};
     ghost use Rattle.host_server.specs.Readiness.{IsKeptWith};
 
     ghost Value = { Host };
 
-    ghost coded = { coded_host (coded_list entry.the_row.coded) known.the_row.coded };
+    ghost coded = { coded_host log.the_row.coded known.the_row.coded };
 
     ghost view = { λ h. host_of h.history h.uploads };
 
@@ -86,7 +85,7 @@ impl SoloHouse {
         }
     }
 
-    /// The state: what the changes that no undo names give when they run from nothing.
+    /// The state: what the changes that no undo names give when they run from the state of the base.
     pub fn state(&self) -> &State
         ensures value { result.now ≡ state_of self.now }
         ensures run { run self.now.uploads self.now.entries ≡ Some result.now }

@@ -12,6 +12,7 @@ ghost use Rattle.range_spec.specs.declared.grammar.Asked.{Asked};
 ghost use Rattle.http_wire.specs.Requests.{RequestParts};
 ghost use Rattle.http_wire.specs.Timing.{AtEnd, Event, Steps, Timely};
 ghost use Rattle.site_change.specs.declared.commands.Command.{Command};
+ghost use Rattle.change_log.specs.Logs.{empty_log, with_entry};
 ghost use Rattle.site_change.specs.declared.entries.Entry.{Entry};
 ghost use Rattle.site_change.specs.declared.entries.Entry.TheVariants.{Undo};
 ghost use Rattle.change_journal.specs.Held.{Keeps};
@@ -84,7 +85,7 @@ pub fn wrong_calls_are_refused<S: Shelf, D: Disk>()
     ensures commits { (old new : Server S D D.Disk) (command : Command) (number : ℕ)
         → is_broken old.journal ≡ true → ¬ (CommitsAt old command (Ok number) new) }
     ensures full { (old new : Server S D D.Disk) (command : Command) (number : ℕ)
-        → old.house ≡ record { limit = 0; entries = []; uploads = map.empty }
+        → old.house ≡ record { limit = 0; entries = empty_log; uploads = map.empty }
         → ¬ (CommitsAt old command (Ok number) new) }
     ensures undoes { (old new : Server S D D.Disk) (site : SiteName) (k number : ℕ)
         → is_broken old.journal ≡ true → ¬ (UndoesAt old site k (Ok number) new) }
@@ -96,8 +97,8 @@ pub fn wrong_calls_are_refused<S: Shelf, D: Disk>()
 /// The same of what a host and its journal do.
 pub fn wrong_changes_are_refused<D: Disk>()
     ensures grows { (entry : Entry)
-        → ¬ (Grows (record { limit = 1; entries = entry ∷ []; uploads = map.empty })
-        (record { limit = 1; entries = []; uploads = map.empty })) }
+        → ¬ (Grows (record { limit = 1; entries = with_entry empty_log entry; uploads = map.empty })
+        (record { limit = 1; entries = empty_log; uploads = map.empty })) }
     ensures journaled { (old new : Host) (entry : Entry) (journal : Keeps D)
         → ¬ (IsJournaled {A = ℕ} D.Disk entry (Ok 0) old None new (Some journal)) }
     ensures broken { (old new : Host) (entry : Entry)
@@ -106,24 +107,25 @@ pub fn wrong_changes_are_refused<D: Disk>()
     ensures put_in_vain { (old new : Keeps D) (entry : Entry) → new.broken ≡ false
         → ¬ (IsPutInVain D.Disk old entry new) }
     ensures kept { (old new : Keeps D) (entry : Entry) → IsTrue D.is_modelled
-        → ¬ (AllStored (D.may_leave new.first) (D.may_leave new.second) new.entries) → ¬ (IsPut D.Disk old entry new) }
+        → ¬ (AllStored (D.may_leave new.first) (D.may_leave new.second) new.entries.entries)
+        → ¬ (IsPut D.Disk old entry new) }
     ensures stopped { ¬ (IsStopped {A = ℕ} (Ok 0)) }
     ensures stops { (host next : Host) (site : SiteName) (missed : Entry)
         → ¬ (HostStops host (Ok (ask.Changes site)) missed next) }
     ensures command { (command : Command) (missed : Entry) (next : Host)
-        → ¬ (HostStops (record { limit = 0; entries = []; uploads = map.empty }) (Ok (ask.Command command)) missed
-        next) }
+        → ¬ (HostStops (record { limit = 0; entries = empty_log; uploads = map.empty })
+        (Ok (ask.Command command)) missed next) }
     ensures undo { (site : SiteName) (k : ℕ) (missed : Entry) (next : Host)
-        → ¬ (HostStops (record { limit = 0; entries = []; uploads = map.empty }) (Ok (ask.Undo site k)) missed
-        next) }
+        → ¬ (HostStops (record { limit = 0; entries = empty_log; uploads = map.empty })
+        (Ok (ask.Undo site k)) missed next) }
     ensures missed { (host next : Host) (site : SiteName) (k : ℕ) (missed : Entry)
         → HostStops host (Ok (ask.Undo site k)) missed next → missed ≡ Undo site k }
     ensures text { ¬ (Tells (Refused reason.BadName) (refused_answer reason.OutOfMemory)) }
     ensures comes { (host : Host) (site : SiteName) (out : Outcome) → ComesOf host (Ok (ask.Changes site)) out
         → out.host ≡ host }
     ensures deploy { (command : SiteName → Command) (missed : Entry) (next : Host)
-        → ¬ (DeployStops (record { limit = 0; entries = []; uploads = map.empty }) 1 command missed next) }
-    ensures shown { (told : Told) → ShowsDeploy (record { limit = 0; entries = []; uploads = map.empty }) 1 told
+        → ¬ (DeployStops (record { limit = 0; entries = empty_log; uploads = map.empty }) 1 command missed next) }
+    ensures shown { (told : Told) → ShowsDeploy (record { limit = 0; entries = empty_log; uploads = map.empty }) 1 told
         → told ≡ Refused (reason.Change NoSuchDeploy) }
     ensures shows { (uploads : Contents) (site : SiteName) (n : ℕ)
         → ¬ (Shows uploads site n None None (Deploy n site Kept)) }

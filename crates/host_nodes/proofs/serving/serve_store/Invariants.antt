@@ -1,4 +1,3 @@
-use Rattle.shared_desk.specs.FoundFiles.{files_of}
 use Rattle.host_nodes.proofs.serving.serve_store.Given as goal
 
 -- the ledger that was just made
@@ -11,4 +10,4 @@ ghosts-serve_found-J-ListName g a = record { book = a.new.entries; found = a.fou
 
 -- the list of files that was just made, which begins with those that were found
 abbrev pub ghosts-serve_found-K-ListName : goal.ghosts-serve_found-K-ListName
-ghosts-serve_found-K-ListName g a = record { book = a.new.uploads; found = files_of a.found.store.known }
+ghosts-serve_found-K-ListName g a = record { book = a.new.uploads; found = a.found.store.known }

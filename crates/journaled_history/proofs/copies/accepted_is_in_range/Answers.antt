@@ -7,7 +7,7 @@ returns-clause-commands c = λ uploads command ok.
     let past = c.args.history.now in
     let over = c.state.ensures.over in
     let law = c.deploys_were_opened_by_their_entries.ensures in
-    command_in_range past.entries past.state (omega (arith, c.len.ensures.room, c.len.ensures.bounded)) (law.opened over.0 past.entries past.state over.1.ran)
+    command_in_range over.0 past.entries past.state (omega (arith, c.len.ensures.room, c.len.ensures.bounded)) over.1.legal.0 (law.opened over.0 past.entries past.state over.1.ran)
     (law.kept over.0 past.entries past.state over.1.ran) uploads past.limit command ok
 
 pub returns-clause-undos : goal.returns-clause-undos

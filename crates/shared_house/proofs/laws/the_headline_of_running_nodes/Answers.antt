@@ -2,7 +2,6 @@ use Rattle.std.proofs.Common.{subst}
 use Rattle.change_log.specs.Logs.{BeginsWith}
 use Rattle.shared_house.specs.Desks.{shows}
 use Rattle.shared_house.specs.Seeing.{Known}
-use Rattle.shared_house.proofs.Fronts.{begins}
 use Rattle.shared_house.proofs.Running as running
 use Rattle.shared_house.proofs.laws.the_headline_of_running_nodes.Goals as goal
 
@@ -17,5 +16,4 @@ returns-clause-later g c = running.later (shows g.D.DeskAccess.did g.G.FileAcces
 
 pub returns-clause-found : goal.returns-clause-found
 returns-clause-found g c =
-    subst (λ (known : Known). BeginsWith known.log g.J.ListName.found) c.one.view_is
-    (begins g.J.ListName.found c.one.inside.log c.each_front_begins_with_what_was_found.ensures)
+    subst (λ (known : Known). BeginsWith known.log g.J.ListName.found) c.one.view_is c.each_front_is_later_than_what_was_found.ensures

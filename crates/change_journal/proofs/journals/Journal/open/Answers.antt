@@ -1,5 +1,5 @@
-use Rattle.std.proofs.Common.{Err, List, inl, ap, sym, ◌∙◌, subst}
-use Rattle.site_change.specs.declared.entries.Entry.{Entry}
+use Rattle.std.proofs.Common.{Err, inl, ap, sym, ◌∙◌, subst}
+use Rattle.change_log.specs.Logs.{Log}
 use Rattle.record_file.specs.Pairs.{first_of, second_of}
 use Rattle.record_file.specs.Walks.{IsOnlyRead}
 use Rattle.entry_texts.specs.Spells.{entry_text}
@@ -78,8 +78,8 @@ pub returns-in-Ok-clause-stored : goal.returns-in-Ok-clause-stored
 returns-in-Ok-clause-stored g c modelled =
     let sound = invariant_of-result g c in
     let disk = g.D.Disk in
-    subst (λ (l : List Entry). AllStored (disk.may_leave (first_of c.at.result)) (disk.may_leave (second_of c.at.result)) l) c.of.ensures
-    (all_stored disk.moment disk.left_since disk.may_leave c.at.result c.of.result.value sound.writable (sound.settled modelled c.at.ensures.records.1))
+    subst (λ (l : Log). AllStored (disk.may_leave (first_of c.at.result)) (disk.may_leave (second_of c.at.result)) l.entries) c.of.ensures
+    (all_stored disk.moment disk.left_since disk.may_leave c.at.result c.of.result.value.entries sound.writable (sound.settled modelled c.at.ensures.records.1))
 
 pub returns-in-Err-clause-memory : goal.returns-in-Err-clause-memory
 returns-in-Err-clause-memory g c modelled out =

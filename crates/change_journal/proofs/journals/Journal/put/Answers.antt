@@ -1,4 +1,5 @@
-use Rattle.std.proofs.Common.{[], ◌∷◌, ◌++◌, ap, sym, ◌∙◌, Err}
+use Rattle.std.proofs.Common.{ap, sym, ◌∙◌, Err}
+use Rattle.change_log.specs.Logs.{with_entry}
 use Rattle.std.proofs.lemmas.Bool.{false≢true}
 use Rattle.site_change.specs.declared.entries.Entry.{Entry}
 use Rattle.change_journal.specs.Held.{entries_of}
@@ -33,6 +34,7 @@ invariant_of-self g c =
     let now = c.put.new.self in
     let broken = c.in_err-put.ensures.breaks in
     record {
+      whole = c.self.invariant.whole;
       writable = c.self.invariant.writable;
       count = ap (λ (p : Position). p.count) c.in_err-put.ensures.position ∙ c.self.invariant.count;
       settled = λ modelled whole. absurd (false≢true (sym whole ∙ broken));
@@ -46,8 +48,8 @@ invariant_of-self-2 g c =
     let was = c.self.invariant in
     let held = c.self.inside.held in
     let put = c.in_ok-put.ensures in
-    let more = ap (λ (h : Held). entries_of h ++ c.of-2.result.value ∷ []) c.of.ensures ∙ ap (λ (e : Entry). entries_of held ++ e ∷ []) c.of-2.ensures in
-    sound_with g.D.Disk.is_modelled g.D.Disk.may_leave c.self.inside.slots c.put.new.self (entries_of held) _ c.args.prepared more was.writable c.bytes.ensures.writable was.count put.position put.breaks (λ failed. (c.put.ensures.refused failed).1)
+    let more = ap (λ (h : Held). with_entry (entries_of h) c.of-2.result.value) c.of.ensures ∙ ap (λ (e : Entry). with_entry (entries_of held) e) c.of-2.ensures in
+    sound_with g.D.Disk.is_modelled g.D.Disk.may_leave c.self.inside.slots c.put.new.self (entries_of held) _ c.args.prepared more was.whole was.writable c.bytes.ensures.writable was.count put.position put.breaks (λ failed. (c.put.ensures.refused failed).1)
     was.settled (λ modelled settled. put.stored modelled _ _ c.bytes.ensures.is settled)
 
 pub returns-clause-stored : goal.returns-clause-stored

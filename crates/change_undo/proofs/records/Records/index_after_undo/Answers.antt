@@ -12,15 +12,18 @@ where_ok P Q (Err e) f p = tt
 pub returns-in-Some : goal.returns-in-Some
 returns-in-Some c =
     let k = c.args.change in
-    let logged = c.args.self.now in
-    where_ok _ (IsIndexOf (with_undone (k - 1) logged)) c.without.result
-    (λ index posted. indexed-undone index c.index-index.result.now logged c.in-Some.plan.now k c.requires.some (sym c.in-Some.ensures) c.index-index.ensures posted)
+    let base = c.args.self.now.base in
+    let logged = c.args.self.now.logged in
+    where_ok _ (IsIndexOf base (with_undone (k - base - 1) logged)) c.without.result
+    (λ index posted. indexed-undone index c.index-index.result.now base logged c.in-Some.plan.now k c.requires.some (sym c.in-Some.ensures) c.index-index.ensures posted)
     c.without.ensures
 
 pub returns-in-None : goal.returns-in-None
 returns-in-None c =
     let k = c.args.change in
-    let logged = c.args.self.now in
-    where_ok _ (IsIndexOf (with_undone (k - 1) logged)) c.copy.result
-    (λ index same. indexed-gone index logged k c.requires.some (sym c.in-None.ensures) (subst (λ (es : Postings). IsIndexOf logged es) (sym same) c.index-index.ensures))
+    let base = c.args.self.now.base in
+    let logged = c.args.self.now.logged in
+    where_ok _ (IsIndexOf base (with_undone (k - base - 1) logged)) c.copy.result
+    (λ index same. indexed-gone index base logged k c.requires.some (sym c.in-None.ensures)
+    (subst (λ (es : Postings). IsIndexOf base logged es) (sym same) c.index-index.ensures))
     c.copy.ensures

@@ -5,19 +5,22 @@ use Rattle.change_undo.proofs.site_entries.SiteEntriesIterator.next.Goals as goa
 
 pub invariant_of-self : goal.invariant_of-self
 invariant_of-self c =
+    let base = c.self.inside.base in
     let earlier = c.self.inside.earlier.now.items in
-    subst (LeadsOn earlier) (sym c.number_before-self-inside.ensures) (leads-on earlier c.self.inside.next (omega arith) c.self.invariant)
+    subst (LeadsOn base earlier) (sym c.number_before-self-inside.ensures) (leads-on base earlier c.self.inside.next (omega arith) c.self.invariant)
 
 pub returns-clause-steps : goal.returns-clause-steps
 returns-clause-steps c =
+    let base = c.self.inside.base in
     let earlier = c.self.inside.earlier.now.items in
-    sym c.self.view_is ∙ trail-next earlier c.self.inside.next (omega arith) c.self.invariant
-    ∙ ap (λ n. c.self.inside.next ∷ trail earlier n n) (sym c.number_before-self-inside.ensures)
+    sym c.self.view_is ∙ trail-next base earlier c.self.inside.next (omega arith) c.self.invariant
+    ∙ ap (λ n. c.self.inside.next ∷ trail base earlier n n) (sym c.number_before-self-inside.ensures)
 
 pub returns-clause-goes : goal.returns-clause-goes
 returns-clause-goes c =
+    let base = c.self.inside.base in
     let earlier = c.self.inside.earlier.now.items in
     let next = c.number_before-self-inside.result in
     let long = ap (λ (ks : List ℕ). length ks) (returns-clause-steps c) in
-    let shorter : length (trail earlier next next) < length c.args.self.now = omega (arith, long) in
+    let shorter : length (trail base earlier next next) < length c.args.self.now = omega (arith, long) in
     record { on = λ finite. (tt, tt, shorter); keeps = tt; rests = λ finite. tt }

@@ -1,4 +1,3 @@
-use Rattle.shared_desk.specs.FoundFiles.{files_of}
 use Rattle.desk_driver.proofs.desk.desks.play_anywhere.Given as goal
 
 -- the ledger that was just made
@@ -11,4 +10,4 @@ ghosts-play_at-J-ListName g a = record { book = a.new.entries; found = a.found.j
 
 -- the list of files that was just made, which begins with those that were found
 abbrev pub ghosts-play_at-K-ListName : goal.ghosts-play_at-K-ListName
-ghosts-play_at-K-ListName g a = record { book = a.new.uploads; found = files_of a.found.store.known }
+ghosts-play_at-K-ListName g a = record { book = a.new.uploads; found = a.found.store.known }

@@ -3,7 +3,7 @@ use Rattle.blob_store.specs.Receipts.{HasFailedPut}
 use Rattle.blob_store.specs.declared.blobs.UploadFault.TheVariants.{Device, TooLarge}
 use Rattle.host_names.specs.Digests.{digest_of}
 use Rattle.change_log.specs.Logs.{last_number}
-use Rattle.shared_house.specs.HouseLaws.{stays}
+use Rattle.growing.specs.Logs.{stays}
 use Rattle.desk_seats.proofs.Turns.{asked_first, asked_last, found_them, listed, lists, not_published, published, stops, stored}
 use Rattle.desk_seats.proofs.seated_desks.SeatedDeskDeskAccess.upload.Goals as goal
 

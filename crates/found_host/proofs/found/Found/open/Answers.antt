@@ -13,7 +13,7 @@ returns-in-Ok-find_history-clause-opened g c =
     let found = c.in-Ok.ensures in
     let made = c.in-Ok-find_history.ensures in
     let blobs = c.in-Ok-find_history.blobs in
-    let held = has_journal g.D.Disk c.args.first c.args.second c.in-Ok.opened.0 c.in-Ok.opened.1 found.entries found.found found.stored found.cause in
+    let held = has_journal g.D.Disk c.args.first c.args.second c.in-Ok.opened.0 c.in-Ok.opened.1 found.entries found.whole found.found found.stored found.cause in
     let entries : c.of.result.journal.entries ≡ c.in-Ok.opened.1 = ap (λ (j : Keeps g.row.D.Denot). j.entries) c.of.ensures.journal ∙ found.entries.0 in
     let files = subst (λ log. HasFiles did c.args.shelf log blobs.known blobs.shelf) (sym entries) made.files in
     record {
@@ -43,7 +43,7 @@ returns-clause-fault g c =
     let journal = c.in-Ok.opened.0 in
     let found = c.in-Ok.ensures in
     let stop = c.in-Err-find_history.stop in
-    let held = has_journal g.D.Disk c.args.first c.args.second journal c.in-Ok.opened.1 found.entries found.found found.stored found.cause in
+    let held = has_journal g.D.Disk c.args.first c.args.second journal c.in-Ok.opened.1 found.entries found.whole found.found found.stored found.cause in
     let why = subst (λ entries. IsHostFault g.S.Shelf.did c.args.shelf c.args.limit entries stop.fault stop.shelf) (sym found.entries.0) c.in-Err-find_history.ensures.fault in
     rw (c.without_host.ensures.shelf.0, c.without_host.ensures.shelf.1) (inr (journal, held, c.without_host.ensures.disks.0, c.without_host.ensures.disks.1, why))
 
@@ -70,7 +70,7 @@ returns-clause-memory g c modelled told =
     let found = c.in-Ok.ensures in
     inr (record {
       journal = journal;
-      has_journal = has_journal g.D.Disk c.args.first c.args.second journal c.in-Ok.opened.1 found.entries found.found found.stored found.cause;
+      has_journal = has_journal g.D.Disk c.args.first c.args.second journal c.in-Ok.opened.1 found.entries found.whole found.found found.stored found.cause;
       first_is = c.without_host.ensures.disks.0;
       second_is = c.without_host.ensures.disks.1;
     })

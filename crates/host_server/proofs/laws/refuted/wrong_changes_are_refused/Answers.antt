@@ -1,5 +1,6 @@
 use Rattle.std.proofs.Common.{◌≡◌, inl, inr, List, [], ◌∷◌, Option, Some, None, true, false, ap, sym, ◌∙◌, arith}
 use Rattle.change_journal.specs.Held.{Keeps}
+use Rattle.change_log.specs.Logs.{Log}
 use Rattle.site_change.specs.declared.entries.Entry.{Entry}
 use Rattle.host_disk.specs.declared.disks.Disk.{Ghosts}
 use Rattle.host_replies.specs.Replies.{Answer}
@@ -8,7 +9,7 @@ use Rattle.host_server.specs.Outcomes.{Outcome}
 use Rattle.host_server.proofs.laws.refuted.wrong_changes_are_refused.Goals as goal
 
 pub returns-clause-grows : goal.returns-clause-grows
-returns-clause-grows g c entry grows = absurd (cc grows.longer)
+returns-clause-grows g c entry grows = absurd (cc (ap (λ (l : Log). l.entries) grows.longer))
 
 -- nothing is put into no journal
 none_put : {D : Type 0} (disk : Ghosts D) (more : List Entry) (new : Option (Keeps D)) → Puts disk None more new → new ≡ None

@@ -1,13 +1,14 @@
 use Rattle.std.proofs.Common.{sym, ◌∙◌, ap, subst, List}
 use mathlib.Core.List.{IsPrefix}
-use Rattle.seen_lists.specs.Rules.{Link}
+use Rattle.seen_lists.specs.Rules.{Link, items_of}
 use Rattle.seen_lists.proofs.Logs.{seen_whole}
+use Rattle.seen_lists.proofs.Rising.{prefix_later}
 use Rattle.seen_lists.proofs.Steps.{looks_moves}
 use Rattle.seen_lists.proofs.lists.SeenList.has.Goals as goal
 
 pub compare_exchange-requires : goal.compare_exchange-requires
 compare_exchange-requires g c =
-    let inv = c.self.invariant in
+    let inv = c.self.invariant.0 in
     let h = inv.head_is in
     let offer = c.plain-offer.ensures in
     let own = c.self.inside.seen.log in
@@ -26,5 +27,6 @@ returns-clause-front g c =
     let both = c.learn.new.self.log in
     let mine : IsPrefix own both = subst (λ (l : List (Link g.row.E.Denot)). IsPrefix l both) (ap (λ s. s.log) c.again-seen.ensures) c.learn.ensures.2 in
     let step = c.compare_exchange.ensures in
-    rw (← c.self.view_is, c.seen.ensures.items)
-    (seen_whole g.L.ListName.found own c.seen.result.now.log both c.compare_exchange.new.seen.log c.self.inside.entries mine c.learn.ensures.3 step.6 step.7.0 c.self.invariant.entered)
+    let begins = seen_whole own c.seen.result.now.log both c.compare_exchange.new.seen.log c.self.inside.entries mine c.learn.ensures.3 step.6 step.7.0 c.self.invariant.0.entered in
+    rw (← ap (λ v. v.now) c.self.view_is, c.seen.ensures.latest)
+    (prefix_later g.E.Growing.is_later g.E.Growing.itself g.E.Growing.goes_on g.L.ListName.found (items_of c.seen.result.now.log) (items_of own) begins c.self.invariant.1)

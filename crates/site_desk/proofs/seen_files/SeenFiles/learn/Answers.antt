@@ -1,5 +1,5 @@
 use Rattle.std.proofs.Common.{sym}
-use Rattle.site_desk.proofs.KnownFiles.{nothing_within}
+use Rattle.site_desk.proofs.AddedFiles.{nothing_within}
 use Rattle.site_desk.proofs.seen_files.SeenFiles.learn.Goals as goal
 
 pub returns-in_default-clause-learnt : goal.returns-in_default-clause-learnt

@@ -1,5 +1,5 @@
 use Rattle.std.proofs.Common.{sym}
-use Rattle.site_desk.proofs.KnownFiles.{nothing_within}
+use Rattle.site_desk.proofs.AddedFiles.{nothing_within}
 use Rattle.site_desk.proofs.stocks.Stock.show.Goals as goal
 
 pub returns-in-None-clause-more : goal.returns-in-None-clause-more

@@ -1,9 +1,12 @@
-use Rattle.std.proofs.Common.{refl, sym, subst}
+use Rattle.std.proofs.Common.{Some, ap, subst, sym}
+use Rattle.site_state.specs.States.{State}
+use Rattle.change_log.proofs.Resolving.{base-empty, resolved-empty}
 use Rattle.change_undo.specs.Histories.{Past}
 use Rattle.change_undo.specs.Plans.{IsHistoryOver}
 use Rattle.core_tests.proofs.tests.histories.Host.new.Goals as goal
 
 pub invariant_of-result : goal.invariant_of-result
 invariant_of-result c =
-    let P : Past → Type 0 = IsHistoryOver c.args.uploads.known in
-    subst P (sym c.new.ensures) (record { legal = tt; ran = refl; planned = tt })
+    let uploads = c.args.uploads.known in
+    subst (λ (past : Past). IsHistoryOver uploads past) (sym c.new.ensures)
+    (record { legal = (base-empty uploads, tt); ran = ap (λ (s : State). Some s) (resolved-empty uploads); planned = tt })

@@ -1,0 +1,4 @@
+pub mod Items
+pub mod Resolving
+pub mod BaseNames
+pub mod Longer

@@ -1,0 +1,3 @@
+-- what public clauses say
+pub mod Orders
+pub mod Logs

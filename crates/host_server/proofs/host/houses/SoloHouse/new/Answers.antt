@@ -1,0 +1,16 @@
+use Rattle.std.proofs.Common.{Some, ap, subst, sym}
+use Rattle.site_state.specs.States.{State}
+use Rattle.change_log.proofs.Resolving.{base-empty, resolved-empty}
+use Rattle.change_undo.specs.Histories.{Past}
+use Rattle.change_undo.specs.Plans.{IsHistoryOver}
+use Rattle.host_server.proofs.Reached.{reached_none}
+use Rattle.host_server.proofs.host.houses.SoloHouse.new.Goals as goal
+
+pub invariant_of-result : goal.invariant_of-result
+invariant_of-result c =
+    let uploads = c.new-2.result in
+    record {
+      over = subst (λ (past : Past). IsHistoryOver uploads past) (sym c.new.ensures)
+          (record { legal = (base-empty uploads, tt); ran = ap (λ (s : State). Some s) (resolved-empty uploads); planned = tt });
+      reached = reached_none c.new.result.entries uploads c.new-3.result.places c.new-3.ensures;
+    }

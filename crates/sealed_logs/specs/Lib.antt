@@ -1,0 +1,3 @@
+-- what public clauses say
+pub mod Sealing
+pub mod Later
