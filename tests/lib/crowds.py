@@ -15,7 +15,7 @@ import sys
 import threading
 import time
 
-from lib.client import HERE, PATIENCE, SECONDS
+from lib.client import HERE, PATIENCE, SECONDS, request
 from lib.served import HOST, Served, ask, publish, sockets_of
 from lib.stalls import Stalls
 
@@ -39,6 +39,8 @@ OF_AN_HONEST_ONE = 4
 # How often an honest client asks at least, also if the crowd has gone before that.
 ASKED = 20
 FILES = {"/a.txt": b"hello", "/large": bytes(1_048_576)}
+# More bytes than a reply needs to move for it to keep its place.
+MOVED = 400_000
 
 
 class Honest:
@@ -222,6 +224,13 @@ class Crowds(Served):
             self.addCleanup(plugs[-1].close)
             plugs[-1].come(self.port + node, given, room)
             time.sleep(pause)
+        return plugs
+
+    def downloads(self, count, moved=MOVED):
+        """So many connections that took so much of a large file, and take no more: the system holds what a reply goes on with."""
+        plugs = self.crowd(count, request("GET", "/s/one/large"), room=4_096)
+        for plug in plugs:
+            self.assertEqual(len(self.received(plug, moved)), moved)
         return plugs
 
     def at_once(self, count, work, least, goes_on):

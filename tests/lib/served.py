@@ -110,6 +110,11 @@ class Served(unittest.TestCase):
         started.stderr.close()
         return status
 
+    def processor_time(self, started):
+        """How many seconds of a processor a program took so far."""
+        fields = pathlib.Path(f"/proc/{started.pid}/stat").read_text().rpartition(")")[2].split()
+        return sum(map(int, fields[11:13])) / os.sysconf("SC_CLK_TCK")
+
     def client(self, node=0):
         """A connection to a node, that is kept alive."""
         client = http.client.HTTPConnection(HOST, self.port + node, timeout=PATIENCE)

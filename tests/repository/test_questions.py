@@ -10,7 +10,7 @@ QUESTIONS = (
     ("How long may a connection be idle?", "idle", "15 seconds"),
     ("Why was my slow upload cut off?", "slow clients", "each 60 KiB of a body | 60 seconds"),
     ("Which timeout has the head of a request?", "timeout", "a head | 10 seconds"),
-    ("What happens if more clients come than it takes?", "too many clients", "one connection ends: first one that closes"),
+    ("What happens if more clients come than it takes?", "too many clients", "one connection ends, the first of these that there is"),
     ("It ran into `ulimit -n`: who loses?", "ulimit -n", "the system has no descriptor left (EMFILE)"),
     ("How do I stop it without breaking downloads?", "stop", "for 10 seconds at most"),
     ("How many threads does it start?", "threads", "and four threads more"),

@@ -54,12 +54,12 @@ class Edits(unittest.TestCase):
 
     def test_are_in_the_full_check_only_if_the_document_says_why(self):
         # The first edit of a crate that ./test tries costs everyone one more proof of that crate.
-        told = (TOP / "docs" / "CHECKS.md").read_text().partition("\n| Crate | In `./test` | Why |\n")[2].partition("\n\n")[0]
+        told = (TOP / "CONTRIBUTING.md").read_text().partition("\n| Crate | In `./test` | Why |\n")[2].partition("\n\n")[0]
         rows = re.findall(r"(?m)^\| `(\w+)` \| (\d+) \| \w.* \|$", told)
         counts = {crate.name: len(list((crate / "must-fail").glob("*.edit"))) for crate in CRATES}
         wanted = {name: int(count) for name, count in rows}
         self.assertGreater(len(wanted), 1)
-        self.assertEqual({name: count for name, count in counts.items() if count}, wanted, "put the edit into wrong-bodies, or say why not in docs/CHECKS.md")
+        self.assertEqual({name: count for name, count in counts.items() if count}, wanted, "put the edit into wrong-bodies, or say why not in CONTRIBUTING.md")
 
 
 class Contracts(unittest.TestCase):

@@ -153,13 +153,11 @@ class Rooms(Bodies):
         self.assert_has_room()
 
     def evict(self, plugs):
-        """Other clients come and are answered, until these have gone for them."""
-        others = []
-        for _ in range(FEW):
-            others.append(self.plug(request("GET", FILE)))
-            self.assert_receives(others[-1], HELLO)
-        for plug in plugs:
-            self.assertLess(seconds_until_closed(plug, PATIENCE), PATIENCE)
+        """Downloads that move take all places, until these have gone for them: one whose request is with a thread goes last."""
+        others, left = [], plugs
+        while left:
+            others += self.downloads(1)
+            left = [plug for plug in left if plug not in select.select(left, [], [], 0)[0]]
         for plug in others:
             plug.close()
 
@@ -180,8 +178,9 @@ class Rooms(Bodies):
             client = self.client()
             status, told = ask(client, "POST", "/api/v1/sites/two/deploys", listed)
             self.assertEqual(status, 200, told)
-            # From now on it is in the cache, and no thread is needed for it.
-            self.assertEqual(ask(client, "GET", FILE), (200, b"hello"))
+            # From now on they are in the cache, and no thread is needed for them.
+            for target in (FILE, "/s/one/large"):
+                self.assertEqual(ask(client, "GET", target)[0], 200)
             client.close()
             held.close()
             target = f"/api/v1/deploys/{json.loads(told)['id']}/files"

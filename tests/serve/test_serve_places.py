@@ -14,7 +14,7 @@ import subprocess
 import time
 
 from lib.client import HERE, LARGEST_FILE, PATIENCE, SECONDS, digest_of, request, sent
-from lib.crowds import GRACE, IDLE, WHOLE, Crowds, reset
+from lib.crowds import GRACE, IDLE, MOVED, WHOLE, Crowds, reset
 from lib.held_file import HeldFile
 from lib.launched import limited_to
 from lib.ring import PEERS, answer_with, asking_for, owner
@@ -204,7 +204,8 @@ class First(Ways):
         self.begin(second=WHOLE, **limited_to(FEW))
         places = self.count_places()
         plug, other = self.crowd(1)[0], self.crowd_later(places - 1)[0]
-        time.sleep(0.1)
+        # None of them is new any more.
+        time.sleep(1.2)
         plug.sendall(GET[:1])
         self.crowd_later(places // 2)
         self.assertLess(seconds_until_closed(other, SOON), SOON)
@@ -241,24 +242,21 @@ class First(Ways):
             self.assert_in_time(lambda: self.sockets() == len(kept), GRACE)
 
     def test_a_request_that_comes_back_to_a_place_of_another_one_is_dropped(self):
-        """Its client had to go for others, all of which were answered later than it asked."""
+        """Its client had to go for another one, since all others have downloads that move."""
         self.begin_cold(second=WHOLE, **limited_to(FEW))
+        places = self.count_places()
         gone = self.plug(request("GET", "/s/two/cold"))
         self.held.wait("opened", "held")
-        plugs = []
-        for _ in range(FEW):
-            plugs.append(self.plug(GET))
-            self.assert_receives(plugs[-1], HELLO)
+        plugs = self.downloads(places - 1)
+        late = self.plug(GET)
+        self.assert_receives(late, HELLO)
         self.assertLess(seconds_until_closed(gone, SOON), SOON)
-        ended = select.select(plugs, [], [], 0)[0]
-        left = [plug for plug in plugs if plug not in ended]
-        self.assertGreater(len(left), EACH)
         self.held.open()
         time.sleep(0.3)
-        self.assertEqual(select.select(left, [], [], 0)[0], [])
-        for plug in left:
-            plug.sendall(GET)
-            self.assert_receives(plug, HELLO)
+        late.sendall(GET)
+        self.assert_receives(late, HELLO)
+        for plug in plugs:
+            self.assertEqual(len(self.received(plug, MOVED)), MOVED)
 
     def test_of_all_nodes_the_one_goes_for_a_file_that_has_least_to_lose(self):
         """A cold file finds no descriptor. A silent client of the other node gives its own, and no client that was answered."""

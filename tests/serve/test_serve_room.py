@@ -39,8 +39,10 @@ WORKERS, OF_A_WORKER = 2, 16
 READERS, LEFT = 64, OF_REPLIES * MEBIBYTE // LARGEST_FILE
 # All but the last piece of a file are those of one of so many contents. So many together are more than a node's cache has; or fewer, for which it has room.
 CONTENTS, CACHED = 8, 2
-# How many descriptors a program has where others take the places of connections, and what these are answered.
-FEW, HELLO = 64, sent(b"hello")
+# How many descriptors a program has where others take the places of connections, and more bytes than the system holds of a reply, which these move.
+FEW, MORE_MOVED = 64, 400_000
+# How many connections are idle, what each was answered, and how many MiB they take at most.
+IDLE_ONES, HELLO, OF_IDLE_ONES = 1_000, sent(b"hello"), 8
 # How many replies hold one file, which is read from the store for each.
 HOLDERS = 8
 # What the operator is told where a reply ends since all hold too much.
@@ -161,12 +163,13 @@ class Rooms(Room):
         self.assert_takes_at_most(started, before + OF_THE_CACHE * OF_PIECES + OTHERS)
 
     def go_for_others(self, plugs):
-        """Clients come that are answered, more than there are places, so these connections go. Returns the clients."""
+        """Clients come, more than there are places, and each moves more than these connections and is in the middle of its next head: so these go. Returns the
+        clients."""
         others = []
         for _ in range(FEW):
-            others.append(self.plug(request("GET", FILE)))
-            self.assert_receives(others[-1], HELLO)
-        self.assertGreater(len(self.read_all(plugs)), 0)
+            others.append(self.plug(request("GET", "/s/site0/large", f"Range: bytes=0-{MORE_MOVED}") + request("GET", FILE)[:10]))
+            self.assertEqual(len(self.received(others[-1], MORE_MOVED)), MORE_MOVED)
+        self.assertGreater(len([body for body in self.read_all(plugs) if body.size < LARGEST_FILE]), 0)
         return others
 
     def test_a_reply_gives_its_room_back_once_it_is_sent_or_broken_off(self):
@@ -252,6 +255,18 @@ class Rooms(Room):
         self.begin(files={"/large": bytes(MUCH)}, second=WHOLE)
         plug = self.reader("/s/one/large")
         self.assert_in_time(lambda: FAR < held_for(plug) <= SYSTEM, GRACE)
+
+    def test_idle_connections_take_little_memory(self):
+        """Each has read a file, so it had the room for heads and for replies, which would be 25 MiB for all."""
+        self.begin(second=WHOLE)
+        before, plugs = self.resident(self.started)[0], []
+        for _ in range(IDLE_ONES):
+            plugs.append(self.plug(request("GET", FILE)))
+            self.assert_receives(plugs[-1], HELLO)
+        self.assertLess(self.resident(self.started)[0], before + OF_IDLE_ONES)
+        for plug in plugs:
+            plug.sendall(request("GET", FILE))
+            self.assert_receives(plug, HELLO)
 
     def test_readers_of_one_file_are_not_cut(self):
         self.serve("--workers", "4", second=WHOLE)

@@ -1,4 +1,4 @@
-"""`filehost serve` while the sync of an upload's piece is held: whom that holds, and what two uploads of one file leave.
+"""`filehost serve` while the sync of an upload's piece is held: whom that holds, and what two uploads of one file leave. And deploys of many files.
 
 What is expected follows from docs/ARCHITECTURE.md, "Between crates": an upload takes its locks in steps, and none while its bytes are written and synced.
 """
@@ -146,6 +146,29 @@ class Failures(HeldSyncs):
         self.assert_receives(self.upload("/y.txt"), uploaded(FILES["/y.txt"], 4))
         self.assert_served("/x.txt", "/y.txt")
         self.assertTrue(is_stored(self.store, FILES["/x.txt"]))
+
+
+class Orders(Served):
+    """Deploys of many small files, without a folder."""
+
+    COUNT = 4_000
+
+    def taken(self, site, paths):
+        """How much of a processor it takes to deploy files at these paths, which are uploaded in this order."""
+        before = self.processor_time(self.started)
+        published = publish(self.client(), {path: f"{site}{path}".encode() for path in paths}, site)
+        self.assertIsNotNone(published)
+        return self.processor_time(self.started) - before
+
+    def test_make_no_deploy_dearer(self):
+        """All uploads of a deploy together go over its paths a few times. If each went over those before it, it would take many times as much."""
+        self.started = self.serve("--workers", "1")
+        paths = [f"/{number:04}" for number in range(self.COUNT)]
+        in_order = self.taken("one", paths)
+        orders = {"last-first": [paths[-1], *paths[:-1]], "backwards": paths[::-1], "halves": [*paths[1::2], *paths[::2]]}
+        for site, order in orders.items():
+            with self.subTest(site):
+                self.assertLess(self.taken(site, order), 1.5 * in_order + 0.2)
 
 
 class Kills(HeldSyncs):

@@ -68,8 +68,9 @@ files, put changes into the journal, ask other nodes and answer them.
 
 A head has 10 seconds from its first byte, an idle connection 15 seconds, each 60 KiB of a body
 60 seconds, and each 60 KiB of a reply 6 minutes. A node has 1024 connections, or fewer if the limit
-of descriptors is low. Where one more comes, one ends: first one that closes, then one that was
-never answered, then the one on which nothing has moved for longest.
+of descriptors is low. If one more comes, one ends: first one that closes, then one that wasn't
+answered a second after it came, then an idle one, then the one on which least moved. A reply that
+moved 256 KiB of late goes on; if all do, the newcomer ends.
 
 Once ./filehost serve is sent SIGTERM or SIGINT, it takes no more clients, and what has begun has
 10 seconds to end; a second signal, of the other kind, ends it at once. What its operator is to know

@@ -15,6 +15,7 @@ limits_of second = record {
   closing = 5 * second;
   sweep = second;
   wait = 10 * second;
+  fresh = second;
 }
 
 -- a connection that begins now

@@ -7,7 +7,7 @@ use Rattle.connection_rules.specs.declared.recent.Recent.{Recent}
 abbrev pub unmoved : ℕ → Recent
 unmoved span = record { span = span; before = 0; moved = 0 }
 
--- the same in a span that isn't earlier: what moved in the one before is kept, and all else is past
+-- the same in another span: what moved in the one just before is kept, and all else is forgotten
 abbrev pub in_span : ℕ → Recent → Recent
 in_span span old =
     if span == old.span then old

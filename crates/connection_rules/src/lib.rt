@@ -8,6 +8,7 @@ mod limits;
 mod paces;
 mod recent;
 mod replies;
+mod stakes;
 mod standings;
 
 pub use bodies::Bodies;
@@ -16,4 +17,5 @@ pub use limits::Limits;
 pub use paces::{Pace, Stage};
 pub use recent::Recent;
 pub use replies::{HeldFile, HeldReply, Replies};
+pub use stakes::{Stake, are_crowding};
 pub use standings::Standing;

@@ -18,8 +18,12 @@ const REPLY_SECONDS: u64 = 360;
 /// How many seconds a connection may take to close.
 const CLOSING_SECONDS: u64 = 5;
 
-/// How many seconds a body may wait for room before another one goes; also the window that counts as recent.
+/// How many seconds a body may wait for room before another one goes. It is also how long a span of time is: what moved in this one and in the one before is
+/// of late.
 const WAIT_SECONDS: u64 = 10;
+
+/// How many seconds a connection counts as new.
+const NEW_SECONDS: u64 = 1;
 
 /// The longest second that a test may set, in milliseconds.
 const LONGEST_SECOND: u64 = 1_000;
@@ -41,6 +45,8 @@ pub struct Limits {
     pub sweep: u64,
     /// How long a body may wait for room before another one goes.
     pub wait: u64,
+    /// How long a connection counts as new.
+    pub fresh: u64,
 }
 
 impl Limits {
@@ -57,6 +63,7 @@ impl Limits {
             closing: CLOSING_SECONDS * second,
             sweep: second,
             wait: WAIT_SECONDS * second,
+            fresh: NEW_SECONDS * second,
         }
     }
 }

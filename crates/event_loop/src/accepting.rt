@@ -5,13 +5,16 @@ use crate::lines::Message;
 use crate::nodes::milliseconds;
 use crate::serving::{Kept, Worker};
 use crate::steps::{NotBegun, Steps};
-use connection_rules::{Stage, Standing};
+use connection_rules::Standing;
 use operator_notices::Kind as About;
-use socket_sets::{ClientSocket, Listener, NotAccepted, SocketSet, Waits, accept_one};
+use socket_sets::{Listener, NotAccepted, SocketSet, Waits, accept_one};
 use std::sync::Wait;
 use std::thread;
 use std::time::{Clock, Duration};
 use worker_connections::{Interest, Want};
+
+/// How many clients a worker accepts in a turn at most, so that those of its connections that are ready aren't kept waiting.
+const MOST_ACCEPTED: u32 = 16;
 
 /// How many milliseconds a worker pauses where there is no descriptor, and no connection that could give one.
 const PAUSE: u64 = 10;
@@ -22,20 +25,35 @@ impl<
     L: Listener<S::Socket> + Drop,
     P: Waits + SocketSet<S::Socket, L> + Drop,
 > Worker<'_, R, S, L, P> {
-    /// Accepts a client, if one is still to come.
+    /// Accepts the clients that have come, some at a time.
     pub(crate) fn accept(&mut self)
+        ensures { self.new.done ≡ self.old.done }
+    {
+        for _ in 0..MOST_ACCEPTED {
+            // A call that finds nobody holds a descriptor meanwhile, which another one may lack.
+            if !self.accept_next() || !self.node.listener.has_client() {
+                return;
+            }
+        }
+    }
+
+    /// Accepts a client, if one is still to come. Answers whether to try the next.
+    fn accept_next(&mut self) -> bool
         ensures { self.new.done ≡ self.old.done }
     {
         // The wait may have told of it before the listener was taken out of the set, in the same turn.
         if self.is_deaf {
-            return;
+            return false;
         }
         if self.node.drains() || !self.node.shares.lock(self.rt).let_in() {
             self.deafen();
-            return;
+            return false;
         }
         match accept_one(&self.node.listener) {
-            Ok(socket) => self.place(socket),
+            Ok(socket) => {
+                self.place(socket);
+                true
+            }
             Err(failed) => {
                 self.node.shares.lock(self.rt).let_out();
                 if failed == NotAccepted::Lacks {
@@ -43,6 +61,7 @@ impl<
                     self.deafen();
                     self.ask_place();
                 }
+                false
             }
         }
     }
@@ -169,11 +188,6 @@ impl<
     fn begins(&mut self, socket: S::Socket) -> bool
         ensures { self.new.done ≡ self.old.done }
     {
-        if !socket.prepare() {
-            let text = "a connection can't be made ready, so it ends";
-            self.node.notices.tell(About::Listener, text, "");
-            return false;
-        }
         let connection = match self.steps.begin(self.alloc, &socket) {
             Ok(connection) => connection,
             Err(NotBegun::Refused) => return false,
@@ -194,7 +208,8 @@ impl<
             _ => false,
         };
         if is_watched {
-            self.say_also(Standing::of(Stage::Idle, false).turn(now));
+            // The number that it has if new ones crowd. Whether they do is looked at once a connection is asked for.
+            self.say_also(Standing::Crowding.turn(now));
         } else {
             self.end(name);
         }
@@ -202,7 +217,7 @@ impl<
     }
 
     /// Tells the operator that there is no memory for a connection.
-    fn tell_memory(&self) -> bool {
+    pub(crate) fn tell_memory(&self) -> bool {
         let text = "there is none for a connection, so it ends";
         self.node.notices.tell(About::Memory, text, "");
         false

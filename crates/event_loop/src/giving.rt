@@ -21,7 +21,7 @@ impl<
     fn first_for(&self, want: Want, now: u64) -> Option<(usize, u64)> {
         let places = self.connections.places();
         match want {
-            Want::Place => places.first_to_go(),
+            Want::Place => places.first_to_go(&self.node.limits, now),
             Want::Body => {
                 let first = self.node.shares.lock(self.rt).first_body();
                 places.slowest(Kind::Bodies, first, &self.node.limits, now)

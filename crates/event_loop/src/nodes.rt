@@ -198,9 +198,10 @@ impl<C: Drop, K: Drop, L: Drop, P: Waits + Drop> Node<C, K, L, P> {
         }
     }
 
-    /// How many workers may be asked for one connection.
+    /// How many workers may be asked for one connection. One refuses if what it said is too little by now: new ones no longer crowd, its first one was given to
+    /// another asker, or was answered since. So with several askers at once it may be asked again and again.
     pub(crate) fn most_tries(&self) -> u64 {
-        4 * (self.lines.len() as u64).min(64) + 4
+        16 * (self.lines.len() as u64).min(64) + 16
     }
 
     /// No body could go to give room, so another look may ask again.

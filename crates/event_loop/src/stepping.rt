@@ -52,6 +52,22 @@ impl<
         has_room
     }
 
+    /// The step of a connection over its socket. Without memory for one it ends.
+    fn step_of(&mut self, connection: &mut Option<S::Connection>, socket: &S::Socket) -> Step
+        ensures { self.new.done ≡ self.old.done }
+    {
+        let Some(connection) = connection else {
+            return lost();
+        };
+        match self.steps.go_on(self.alloc, connection, socket) {
+            Some(step) => step,
+            None => {
+                self.tell_memory();
+                lost()
+            }
+        }
+    }
+
     /// Takes a step with a connection; room was kept for it, or needn't be.
     pub(crate) fn step(&mut self, name: Name, is_kept: bool)
         ensures { self.new.done ≡ self.old.done }
@@ -65,10 +81,7 @@ impl<
         else {
             return;
         };
-        let step = match &mut connection {
-            Some(connection) => self.steps.go_on(self.alloc, connection, &socket),
-            None => lost(),
-        };
+        let step = self.step_of(&mut connection, &socket);
         let leaving = match step.next {
             Next::Leaves | Next::Closes => connection.take(),
             Next::Waits(_) | Next::Ends => None,
@@ -160,6 +173,10 @@ impl<
         if change.fate == Fate::ClosesSide {
             self.close_side(name);
         }
+        if self.said.place.is_none() && change.fate != Fate::Ends {
+            // This one may go for a place by now. Whether it does is looked at once one is asked for.
+            self.say_also(u64::MAX);
+        }
     }
 
     /// A connection whose reply there was no memory to count is as one that holds nothing. Its next step says anew what it holds, and that counts then.
@@ -239,7 +256,7 @@ impl<
         };
         if is_closed {
             // It goes before all others that don't close.
-            self.say_also(Standing::of(Stage::Closing, true).turn(milliseconds(self.rt)));
+            self.say_also(Standing::Closing.turn(milliseconds(self.rt)));
         } else {
             self.end(name);
         }

@@ -3,7 +3,7 @@ use socket_sets::ClientSocket;
 use std::alloc::{AllocError, Global};
 use worker_connections::Step;
 
-/// Why no connection begins over a socket.
+/// Why a connection over a socket doesn't begin, or doesn't go on.
 #[derive(Clone, Copy, Debug, PartialEq, Eq)]
 pub enum NotBegun {
     /// Whoever connects isn't served.
@@ -34,13 +34,14 @@ pub trait Steps {
     /// A connection over a socket of which nothing was read.
     fn begin(&mut self, alloc: Global, socket: &Self::Socket) -> Result<Self::Connection, NotBegun>;
 
-    /// Goes on with a connection over its socket, until it would have to wait or has done enough for a turn.
+    /// Goes on with a connection over its socket, until it would have to wait or has done enough for a turn. If there is no memory for that, it makes no step, and
+    /// the connection ends.
     fn go_on(
         &mut self,
         alloc: Global,
         connection: &mut Self::Connection,
         socket: &Self::Socket,
-    ) -> Step;
+    ) -> Option<Step>;
 }
 
 /// What goes on with connections that a worker handed over: each thread for errands has one. Its steps may wait, and have no socket.

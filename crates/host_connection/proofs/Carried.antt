@@ -31,6 +31,7 @@ use Rattle.host_connection.specs.declared.stops.Stop.{Stop}
 use Rattle.host_connection.specs.declared.stops.Stop.TheVariants as stop
 use Rattle.host_connection.specs.Carrying.{text_of, Carried, Carries, ConnectionSoFar, FollowsHead, FollowsReply, FollowsStop, InTurn, IsAnswering, IsFresh, ReadsNext, Refusing, Replying, Tells}
 use Rattle.host_connection.specs.Phases.{InviteSoFar, BodySoFar, RefusalSoFar}
+use Rattle.host_connection.specs.Resting.{IsResting}
 use Rattle.host_connection.specs.Serving.{Answering, IsSent, is_last_at, limit_of}
 use Rattle.host_connection.specs.Stopping.{stop_of_body, stop_of_head}
 use Rattle.host_connection.specs.Timing.{AwaitsRequest, Connects, IsCaughtUp, ReadsHeadAs}
@@ -72,6 +73,15 @@ new_connection answers saw waits start host c fresh =
     let P : ℕ → Type 0 = λ n. Carried answers saw waits start host start host c.wire c.out n phase.Head in
     at_phase answers saw waits start start host host c.wire c.out c.number phase.Head c.phase fresh.2
     (subst P (sym fresh.1) (record { began = start; before = host; begun = c.wire; so = so; turn = (head_begins saw start c.wire, refl) }))
+
+-- connections that rest before one request have done the same
+pub at_rest : {S H : Type 0} (answers : Answering H) (saw : S → Event → S → Type 0) (waits : Type 0) (start now : S) (first host : H) (n : ℕ) (c d : Connection) → IsResting n c → IsResting n d
+    → Carries answers saw waits start first now host c → Carries answers saw waits start first now host d
+at_rest answers saw waits start now first host n c d rests other carries =
+    let headed : Carried answers saw waits start first now host c.wire d.out c.number phase.Head
+    = at_phase answers saw waits start now first host c.wire c.out c.number c.phase phase.Head (sym rests.2) carries in
+    at_fields answers saw waits start now first host d c.wire c.number (other.0 ∙ sym rests.0) (other.1 ∙ sym rests.1)
+    (at_phase answers saw waits start now first host c.wire d.out c.number phase.Head d.phase other.2 headed)
 
 -- ---- where no request is read
 

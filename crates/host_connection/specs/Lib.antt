@@ -6,6 +6,7 @@ pub mod Phases
 pub mod Carrying
 pub mod Walks
 pub mod Stages
+pub mod Resting
 pub mod Metering
 pub mod Advancing
 pub mod StandingIn

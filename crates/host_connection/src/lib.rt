@@ -6,6 +6,7 @@ pub mod laws;
 mod meters;
 mod phases;
 mod requests;
+mod resting;
 mod services;
 mod steps;
 mod stops;

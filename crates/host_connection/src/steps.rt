@@ -4,6 +4,7 @@ ghost use Rattle.http_wire.specs.Gathering.{nothing};
 ghost use Rattle.http_wire.specs.Timing.{Event, Steps};
 ghost use Rattle.host_connection.specs.Advancing.{phases_left, Advances, Goes, IsBody, RemembersMemory, TellsBody};
 ghost use Rattle.host_connection.specs.Carrying.{until_asked, AnswersOnce, Asks, Carries, IsFresh, Leads, MayWait};
+ghost use Rattle.host_connection.specs.Resting.{IsResting};
 
 mod stages;
 mod turns;
@@ -47,11 +48,11 @@ pub enum Progress {
 /// A connection between two steps.
 #[derive(Drop)]
 pub struct Connection {
-    wire: Wire,
+    pub(crate) wire: Wire,
     out: Outgoing,
     /// The number of the request that it is at.
-    number: u64,
-    phase: Phase,
+    pub(crate) number: u64,
+    pub(crate) phase: Phase,
 }
 
 impl Connection {
@@ -59,10 +60,17 @@ impl Connection {
     pub fn new(alloc: Global) -> Result<Connection, AllocError>
         ensures { IfOk result (λ c. IsFresh c) }
     {
+        Connection::rested(alloc, 1)
+    }
+
+    /// A connection that rests before the request of this number. It takes all the room for heads and for replies at once.
+    pub fn rested(alloc: Global, number: u64) -> Result<Connection, AllocError>
+        ensures { IfOk result (IsResting number) }
+    {
         Ok(Connection {
             wire: Wire::new(alloc)?,
             out: Outgoing::new(alloc)?,
-            number: 1,
+            number,
             phase: Phase::Head,
         })
     }

@@ -1,15 +1,15 @@
 //! What the workers answer over.
 ghost use Rattle.std.specs.Prelude.{◌≡◌};
-ghost use Rattle.host_connection.specs.Carrying.{IsFresh};
 ghost use Rattle.host_connection.specs.declared.steps.Progress.TheVariants as came;
 ghost use Rattle.host_connection.specs.declared.steps.Wants.TheVariants as wants;
 ghost use Rattle.worker_connections.specs.declared.steps.Interest.TheVariants as interest;
 ghost use Rattle.worker_connections.specs.declared.steps.Next.TheVariants as next;
 ghost use Rattle.shared_house.specs.Desks.{shows};
-ghost use Rattle.host_nodes.specs.Carried.{IsCarried};
+ghost use Rattle.host_nodes.specs.Carried.{IsKept};
 
 use crate::inputs::Input;
 use crate::nodes::TakesSteps;
+use crate::rooms::{with_room, without_room};
 use crate::showing::{AsksOver, HostHouses, Houses};
 use connection_rules::{HeldReply, Stage};
 use event_loop::NotBegun;
@@ -25,19 +25,22 @@ use tcp_socket::{Socket, Trail};
 use worker_connections::{Holding, Interest, Next, Step};
 
 /// A connection, the note of what it saw last, what went over its socket, and what is known of its input. While a request waits to be answered by a thread
-/// that may wait, what a worker saw for it is here.
+/// that may wait, what a worker saw for it is here. While it rests, it takes no room for heads and replies.
 ///
 /// The note stays the connection's own: over all that went over the socket, the connection and the note are what the steps of workers made of them, each
 /// with the note that the one before left.
 #[derive(Drop)]
 pub(crate) struct Noted<J: DeskName, K: ListName<KnownFiles>, M: Houses> {
-    connection: Connection,
+    // None while it rests.
+    connection: Option<Box<Connection>>,
+    /// The number of the request that it is before while it rests.
+    number: u64,
     note: Note<J, K>,
     trail: Trail,
     input: Input,
     sight: Option<DeskVisitor<J>>,
     houses: PhantomData<M>,
-    ghost carried: { ∥ IsCarried (shows M.did M.fails) trail note connection ∥₁ },
+    ghost carried: { ∥ IsKept (shows M.did M.fails) trail note connection number ∥₁ },
 }
 
 /// It is in a box, so a worker that takes a step and threads that hand it on move its address alone.
@@ -49,6 +52,26 @@ pub(crate) type NotedSlot<J, K, M> = Option<NotedBox<J, K, M>>;
 /// That of a host over such disks, whose shelf is reached this way.
 pub(crate) type HostSlot<J, K, D, S, Q, U, N> = NotedSlot<J, K, HostHouses<J, D, S, Q, U, N>>;
 
+/// What a step came to, what the connection is in the middle of then, and what it holds.
+#[derive(Clone, Copy)]
+struct Went {
+    progress: Progress,
+    phase: Phase,
+    is_asked: bool,
+    holds: Holding,
+}
+
+/// What a connection has come to by this step.
+fn came_to(connection: &Connection, progress: Progress) -> Went {
+    let phase = connection.stage();
+    Went {
+        progress,
+        phase,
+        is_asked: connection.is_asked(),
+        holds: held_by(connection, phase),
+    }
+}
+
 /// Puts it into a box.
 fn boxed<J: DeskName, K: ListName<KnownFiles>, M: Houses>(
     alloc: Global,
@@ -59,11 +82,10 @@ fn boxed<J: DeskName, K: ListName<KnownFiles>, M: Houses>(
 
 impl<J: DeskName, K: ListName<KnownFiles>, M: Houses> Noted<J, K, M> {
     /// A connection that has read nothing, with a note of its own.
-    fn new(connection: Connection, note: Note<J, K>) -> Noted<J, K, M>
-        requires { IsFresh connection }
-    {
+    fn new(note: Note<J, K>) -> Noted<J, K, M> {
         Noted {
-            connection,
+            connection: None,
+            number: 1,
             note,
             trail: Trail::new(),
             input: Input::new(),
@@ -82,18 +104,25 @@ impl<J: DeskName, K: ListName<KnownFiles>, M: Houses> Noted<J, K, M> {
         }
     }
 
-    /// Goes on with the connection over its socket, by a guest.
+    /// Goes on with the connection over its socket, by a guest. If it rested, it has the room of the spare one; if it rests then, its room is spare. It doesn't go
+    /// on if there is no memory for its room.
     fn go_on<A: AsksOver<J, K, M, G>, G: FileAccess, H: Haste>(
         &mut self,
         alloc: Global,
         guest: &mut Guest<J, K, A, G, H>,
         duplex: &mut Metered<Socket<'_>>,
-    ) -> Progress
+        spare: &mut Option<Box<Connection>>,
+    ) -> Option<Went>
         requires { duplex.old.stream ≡ self.old.trail }
     {
-        let progress = guest.go_on(&mut self.connection, &mut self.note, alloc, duplex);
+        let mut connection = with_room(alloc, self.connection.take(), self.number, spare)?;
+        let progress = guest.go_on(&mut connection, &mut self.note, alloc, duplex);
         self.trail = duplex.stream().trail();
-        progress
+        let done = came_to(&connection, progress);
+        let (connection, number) = without_room(connection, spare);
+        self.connection = connection;
+        self.number = number;
+        Some(done)
     }
 }
 
@@ -126,8 +155,7 @@ fn begun<J: DeskName, K: ListName<KnownFiles>, M: Houses>(
     alloc: Global,
     note: Note<J, K>,
 ) -> Result<NotedBox<J, K, M>, NotBegun> {
-    let connection = Connection::new(alloc)?;
-    Ok(boxed(alloc, Noted::new(connection, note))?)
+    Ok(boxed(alloc, Noted::new(note))?)
 }
 
 impl<
@@ -140,14 +168,18 @@ impl<
 > TakesSteps for GuestSteps<J, K, M, A, G, H> {
     type Connection = NotedBox<J, K, M>;
 
+    type Room = Box<Connection>;
+
     fn take_step(
         &mut self,
         alloc: Global,
         noted: &mut NotedSlot<J, K, M>,
+        spare: &mut Option<Box<Connection>>,
         stream: Option<&TcpStream>,
     ) -> Result<Option<Step>, NotBegun> {
         if let Some(noted) = noted {
-            return Ok(Some(step_of(&mut self.guest, alloc, noted, stream)));
+            let step = step_of(&mut self.guest, alloc, noted, stream, spare);
+            return Ok(Some(step.ok_or(NotBegun::OutOfMemory)?));
         }
         *noted = Some(begun(alloc, self.guest.note())?);
         Ok(None)
@@ -164,7 +196,7 @@ pub(crate) fn taken_sight<J: DeskName, K: ListName<KnownFiles>, M: Houses>(
     }
 }
 
-/// A step of a connection over a socket, by a guest.
+/// A step of a connection over a socket, by a guest. There is none only if there is no memory for its room.
 fn step_of<
     J: DeskName,
     K: ListName<KnownFiles>,
@@ -177,22 +209,27 @@ fn step_of<
     alloc: Global,
     noted: &mut Noted<J, K, M>,
     stream: Option<&TcpStream>,
-) -> Step {
+    spare: &mut Option<Box<Connection>>,
+) -> Option<Step> {
     let mut duplex = Metered::new(noted.socket(stream));
-    let progress = noted.go_on(alloc, guest, &mut duplex);
-    let phase = noted.connection.stage();
+    let Went {
+        progress,
+        phase,
+        is_asked,
+        holds,
+    } = noted.go_on(alloc, guest, &mut duplex, spare)?;
     let socket = duplex.stream();
     let answered = guest.answered();
     noted.input.note(socket, answered);
     noted.sight = guest.take_sight();
-    Step {
+    Some(Step {
         next: next_of(progress, phase, &noted.input),
-        stage: stage_after(progress, phase, noted.connection.is_asked()),
+        stage: stage_after(progress, phase, is_asked),
         read: socket.read(),
         written: socket.written(),
         answers: answered.is_some(),
-        holds: held_by(&noted.connection, phase),
-    }
+        holds,
+    })
 }
 
 /// What a connection is doing after a step, as far as its deadline goes. If it may go on at once with what has come of a request, it waits only where its

@@ -14,6 +14,7 @@ mod overseeing;
 mod peer_ports;
 mod ports;
 mod posts;
+mod rooms;
 mod runtimes;
 mod serving;
 mod showing;

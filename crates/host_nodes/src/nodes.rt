@@ -27,11 +27,16 @@ pub(crate) trait TakesSteps {
     /// What a connection takes along.
     type Connection: Drop;
 
-    /// Takes a step of a connection, over its socket if it has one here. If there is no connection yet, one begins in this place, which takes no step.
+    /// Room that a connection needs for a step, and may leave to the next one.
+    type Room: Drop;
+
+    /// Takes a step of a connection, over its socket if it has one here. If there is no connection yet, one begins in this place, which takes no step. Neither is
+    /// done if there is no memory for it.
     fn take_step(
         &mut self,
         alloc: Global,
         connection: &mut Option<Self::Connection>,
+        spare: &mut Option<Self::Room>,
         stream: Option<&TcpStream>,
     ) -> Result<Option<Step>, NotBegun>;
 }
@@ -58,8 +63,10 @@ fn step_taken(taken: Result<Option<Step>, NotBegun>) -> Step {
 
 /// The steps of a worker over TCP. It waits for nothing but its set.
 #[derive(Drop)]
-struct OverTcp<W: Drop> {
+struct OverTcp<W: TakesSteps + Drop> {
     steps: W,
+    /// Room that a connection left, for the next one that needs some.
+    spare: Option<W::Room>,
 }
 
 impl<W: TakesSteps + Drop> Steps for OverTcp<W> {
@@ -73,7 +80,8 @@ impl<W: TakesSteps + Drop> Steps for OverTcp<W> {
         _socket: &TcpStream,
     ) -> Result<Option<W::Connection>, NotBegun> {
         let mut connection = None;
-        self.steps.take_step(alloc, &mut connection, None)?;
+        self.steps
+            .take_step(alloc, &mut connection, &mut self.spare, None)?;
         Ok(connection)
     }
 
@@ -82,8 +90,10 @@ impl<W: TakesSteps + Drop> Steps for OverTcp<W> {
         alloc: Global,
         connection: &mut Option<W::Connection>,
         socket: &TcpStream,
-    ) -> Step {
-        step_taken(self.steps.take_step(alloc, connection, Some(socket)))
+    ) -> Option<Step> {
+        self.steps
+            .take_step(alloc, connection, &mut self.spare, Some(socket))
+            .ok()?
     }
 }
 
@@ -93,7 +103,7 @@ pub(crate) fn step_away<W: TakesSteps + Drop>(
     alloc: Global,
     connection: &mut Option<W::Connection>,
 ) -> Step {
-    step_taken(steps.take_step(alloc, connection, None))
+    step_taken(steps.take_step(alloc, connection, &mut None, None))
 }
 
 /// Serves whoever connects to a node over TCP, until it ends.
@@ -103,7 +113,7 @@ pub(crate) fn serve_tcp<R: Wait + Clock, W: TakesSteps + Drop>(
     node: &TcpNode<Option<W::Connection>>,
     steps: W,
 ) {
-    let steps = OverTcp { steps };
+    let steps = OverTcp { steps, spare: None };
     serve_clients(rt, alloc, Job { node, steps });
 }
 

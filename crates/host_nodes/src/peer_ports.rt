@@ -40,18 +40,18 @@ impl<R: Wait, C: LocalChunks> Steps for PeerSteps<'_, R, C> {
         _alloc: Global,
         connection: &mut PeerConnection,
         socket: &TcpStream,
-    ) -> Step {
+    ) -> Option<Step> {
         let mut socket = Socket::new(socket, &Trail::new());
         let progress = connection.go_on(self.rt, &mut socket, self.chunks);
         let stage = connection.stage();
-        Step {
+        Some(Step {
             next: next_of(progress, stage),
             stage: stage_of(progress, stage),
             read: socket.read(),
             written: socket.written(),
             answers: stage == PeerStage::Answer || socket.written() > 0,
             holds: Holding::Nothing,
-        }
+        })
     }
 }
 

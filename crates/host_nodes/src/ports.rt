@@ -5,6 +5,7 @@ ghost use Rattle.std.specs.Net.Socket.{socket_port};
 use crate::addresses::{client_address, peer_address};
 use crate::lines::Failure;
 use libc::net as c;
+use socket_sets::bound_replies;
 use std::alloc::{AllocError, Global};
 use std::io;
 use std::io::ErrorKind;
@@ -40,6 +41,7 @@ fn listen<R: Net<Listener = TcpListener, Stream = TcpStream>>(
         return Err(io::Error::from(ErrorKind::Other));
     }
     listener.set_nonblocking(true)?;
+    bound_replies(&listener);
     Ok(listener)
 }
 

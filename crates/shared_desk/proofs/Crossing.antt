@@ -10,6 +10,7 @@ use Rattle.left_right.specs.declared.Absorb as absorb
 use Rattle.seen_lists.specs.declared.names.ListName as names
 use Rattle.seen_lists.specs.declared.receipts.Receipt.{Receipt}
 use Rattle.shared_desk.specs.contracts.desks.Desk as desks
+use Rattle.shared_desk.specs.contracts.hints.Hints as hints
 use Rattle.site_desk.specs.contracts.books.Book as books
 use Rattle.site_desk.specs.contracts.stocks.Stock as stocks
 use Rattle.site_desk.specs.declared.snaps.HostSnap.{HostSnap}
@@ -57,6 +58,9 @@ book_send N K D T R l n u d a js jy ks ky ds ts ty rs ry =
     let ties = tie_send K u ks ky in
     search sendable depth 30
 
+hints_send : IsSend hints.the_row
+hints_send = search sendable depth 30
+
 -- threads may share a desk
 pub desk_sync : (N K D S T R : RattleType) (l : ledger.Ghosts N.Denot) (n : names.Ghosts N.Denot Log) (u : names.Ghosts K.Denot KnownFiles) (d : disks.Ghosts D.Denot)
     (a : absorb.Ghosts T.Denot (Receipt Log N.Denot HostSnap) Log)
@@ -65,4 +69,5 @@ desk_sync N K D S T R l n u d a js jy ks ky ds ss ts ty rs ry =
     let books_too = mutex.the_sync (books.the_row N K D T R l n u d a) (book_send N K D T R l n u d a js jy ks ky ds ts ty rs ry) in
     let stocks_too = mutex.the_sync (stocks.the_row K u) (stock_send K u ks ky) in
     let files_too = mutex.the_sync (files.the_row S) (files_send S ss) in
+    let hints_too = mutex.the_sync hints.the_row hints_send in
     search sendable depth 30

@@ -1,3 +1,2 @@
-pub mod LastLacking
 mod Standing
 pub mod Crossing

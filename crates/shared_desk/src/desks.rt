@@ -4,6 +4,7 @@ ghost use Rattle.change_log.specs.Logs.{BeginsWith, last_number};
 ghost use Rattle.shared_desk.specs.Turns.{Commits, Undoes};
 
 use crate::closings::give_all_back;
+use crate::hints::Hints;
 use crate::turns;
 use blob_store::Files;
 use change_log::Log;
@@ -18,8 +19,8 @@ use std::marker::Model;
 use std::mem;
 use std::sync::{Mutex, Wait};
 
-/// A book, the files that are known, and those on the shelf. Each is behind a lock of its own. A thread that takes more than one of these locks takes
-/// them in this order; the shelf's lock is held for one call alone, or not at all. Contracts see how many seats the desk has.
+/// A book, the files that are known, hints at what deploys lack, and the files on the shelf. Each is behind a lock of its own. A thread that takes more than
+/// one of these locks takes them in this order; the shelf's lock is held for one call alone, or not at all. Contracts see how many seats the desk has.
 #[derive(Drop)]
 pub struct Desk<
     J: DeskName,
@@ -33,6 +34,7 @@ pub struct Desk<
     pub(crate) seats: u64,
     pub(crate) book: Mutex<Book<J, K, D, T, R>>,
     pub(crate) stock: Mutex<Stock<K>>,
+    pub(crate) hints: Mutex<Hints>,
     pub(crate) files: Mutex<Files<S>>,
 }
 

@@ -3,6 +3,7 @@
 
 mod closings;
 mod desks;
+mod hints;
 pub mod laws;
 mod listings;
 mod new_desks;

@@ -7,6 +7,7 @@ ghost use Rattle.site_desk.specs.Snaps.{IsFromUploads};
 ghost use Rattle.shared_desk.specs.NewDesks.{AreNames};
 
 use crate::desks::Desk;
+use crate::hints::Hints;
 use crate::new_desks::NewDesk;
 use crate::showing::{DeskShown, FirstPublished, publish_found};
 use blob_store::{BlobIndex, Blobs, Shelf};
@@ -122,6 +123,7 @@ fn desk_of<J: DeskName, K: ListName<KnownFiles>, D: Disk + Drop, S: Shelf + Drop
         seats,
         book: Mutex::new(book_of(alloc, snap, journal, published, stock.tie())),
         stock: Mutex::new(stock),
+        hints: Mutex::new(Hints::new()),
         files: Mutex::new(files),
     }
 }

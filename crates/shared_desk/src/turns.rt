@@ -7,6 +7,7 @@ ghost use Rattle.shared_desk.specs.Uploads.{IsJudged, IsPublishing};
 ghost use Rattle.site_change.specs.Changes.{IsWithin};
 ghost use Rattle.site_desk.specs.Books.{with_known};
 
+use crate::hints::Hints;
 use crate::listings::is_ready;
 use change_log::Log;
 use host_disk::Disk;
@@ -118,6 +119,7 @@ fn learn_if_ready<
 >(
     book: &mut Book<J, K, D, T, R>,
     stock: &mut Stock<K>,
+    hints: &mut Hints,
     seen: &mut Front<Log, J>,
     known: &mut SeenFiles<K>,
     mine: &mut Seat<J>,
@@ -138,7 +140,7 @@ fn learn_if_ready<
     book.learn(stock);
     book.tell(seen);
     book.audit(mine);
-    is_ready(book.latest().state(), stock.index(), site, number)
+    is_ready(book.latest().state(), stock.index(), hints, site, number)
 }
 
 /// Learns of all uploads so far, and publishes a deploy of a site if it is ready over them, from a seat. Both are told by which that is so: these files, and
@@ -153,6 +155,7 @@ pub(crate) fn publish_if_ready<
     rt: &impl Wait,
     book: &mut Book<J, K, D, T, R>,
     stock: &mut Stock<K>,
+    hints: &mut Hints,
     seen: &mut Front<Log, J>,
     known: &mut SeenFiles<K>,
     mine: &mut Seat<J>,
@@ -169,7 +172,7 @@ pub(crate) fn publish_if_ready<
         (λ published. MatchOption published (mine.new ≡ mine.old) (λ _. mine.new ≡ mine.old + 1))
         (λ _. mine.new ≡ mine.old) }
 {
-    if !learn_if_ready(book, stock, seen, known, mine, site, number) {
+    if !learn_if_ready(book, stock, hints, seen, known, mine, site, number) {
         return Ok(None);
     }
     let site = site.copied();

@@ -171,6 +171,17 @@ impl<
     {
         let mut book = self.book.lock(rt);
         let mut stock = self.stock.lock(rt);
-        turns::publish_if_ready(rt, &mut *book, &mut *stock, seen, known, mine, site, number)
+        let mut hints = self.hints.lock(rt);
+        turns::publish_if_ready(
+            rt,
+            &mut *book,
+            &mut *stock,
+            &mut *hints,
+            seen,
+            known,
+            mine,
+            site,
+            number,
+        )
     }
 }

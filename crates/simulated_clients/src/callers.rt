@@ -64,6 +64,8 @@ pub struct Caller {
     pub is_refused: bool,
     pub is_failed: bool,
     pub watch: Option<Watch>,
+    /// The set of its worker, which it keeps.
+    pub worker: Option<usize>,
     /// Whether its worker was told of it, or of room for its body, and has made no step since.
     pub is_told: bool,
     pub doing: Doing,
@@ -97,6 +99,7 @@ impl Caller {
             is_refused: false,
             is_failed: false,
             watch: None,
+            worker: None,
             is_told: false,
             doing: Doing::Waits(Interest::Read),
             stage: Stage::Idle,

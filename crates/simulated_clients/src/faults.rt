@@ -14,6 +14,7 @@ pub enum Fault {
     CutBeforeItsTime,
     MoreGoThanAreWanted,
     AnotherHasLessToLose,
+    ReplyMoves,
     AnotherMovedLess,
     CutThoughOneMayGo,
     StaysTooLong,
@@ -45,6 +46,7 @@ impl Fault {
             Fault::CutBeforeItsTime => "a connection is cut before its time",
             Fault::MoreGoThanAreWanted => "more connections go than places were wanted",
             Fault::AnotherHasLessToLose => "a connection goes though another one has less to lose",
+            Fault::ReplyMoves => "a reply that moves goes for a place",
             Fault::AnotherMovedLess =>
                 "a connection goes to give room though another one moved less",
             Fault::CutThoughOneMayGo => "a client is cut though a connection may go for it",

@@ -4,15 +4,34 @@ use crate::laps::Lap;
 use connection_rules::{Limits, Stage};
 use worker_connections::{Holding, Interest, Next, Step};
 
+/// What a connection has to lose that closes, the least of all, in the order of docs/WIRE.md.
+pub(crate) const CLOSES: u64 = 0;
+
+/// What one has that wasn't answered in a second.
+pub(crate) const UNANSWERED: u64 = 1;
+
+/// What a new one has of which there are too many.
+pub(crate) const CROWDING: u64 = 2;
+
+/// What one has that was answered and is idle.
+pub const IDLE: u64 = 3;
+
+/// What one has that is in the middle of its next request or of a reply.
+pub(crate) const BUSY: u64 = 4;
+
+/// What a new one has.
+pub(crate) const NEW: u64 = 5;
+
+/// What one has of which a thread has a request.
+pub(crate) const AT_WORK: u64 = 6;
+
 impl Caller {
     /// A step of it ended now, in which a head, a body or a reply began, or none did.
     pub fn note(&mut self, step: &Step, begins: bool, now: u64) {
         let moved = step.read.saturating_add(step.written);
+        let lost = self.loses();
         self.note_time(step, begins, moved, now);
         self.flow.add(moved, now);
-        if moved > 0 || self.is_answered != step.answers && step.answers {
-            self.ranked = now;
-        }
         if moved > 0 {
             self.active = now;
         }
@@ -30,6 +49,8 @@ impl Caller {
         if step.next == Next::Closes {
             self.stage = Stage::Closing;
             self.lap = Lap::new(now);
+        }
+        if moved > 0 || self.loses() != lost {
             self.ranked = now;
         }
     }
@@ -83,16 +104,19 @@ impl Caller {
         matches!(self.doing, Doing::Away | Doing::Made(_))
     }
 
-    /// What it has to lose, and when bytes moved last: if a place is needed, the one with the least goes.
-    pub fn rank(&self) -> (u64, u64) {
-        let loses = if self.doing == Doing::Closes {
-            0
-        } else if self.is_answered || self.is_away() {
-            2
+    /// What it has to lose if it isn't new: if a place is needed, one with the least goes.
+    pub fn loses(&self) -> u64 {
+        if self.doing == Doing::Closes {
+            CLOSES
+        } else if self.is_away() {
+            AT_WORK
+        } else if !self.is_answered {
+            UNANSWERED
+        } else if self.stage == Stage::Idle {
+            IDLE
         } else {
-            1
-        };
-        (loses, self.active)
+            BUSY
+        }
     }
 
     /// Whether it has a body that counts. What a thread has of one that is gone does until it is back.

@@ -24,13 +24,6 @@ impl Drop for DrawnSocket<'_> {
 }
 
 impl ClientSocket for DrawnSocket<'_> {
-    fn prepare(&self) -> bool {
-        match self.world.try_lock() {
-            Some(mut world) => world.prepare(self.caller),
-            None => false,
-        }
-    }
-
     fn read_some(&self, buffer: &mut [u8]) -> io::Result<usize> {
         let most = buffer.len();
         let Some(mut world) = self.world.try_lock() else {
@@ -80,7 +73,7 @@ impl<'a> Listener<DrawnSocket<'a>> for DrawnListener<'a> {
 
     fn has_client(&self) -> bool {
         match self.world.try_lock() {
-            Some(mut world) => world.lacks_for_client(),
+            Some(mut world) => world.has_client(),
             None => false,
         }
     }

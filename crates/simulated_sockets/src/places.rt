@@ -1,9 +1,6 @@
 //! What docs/WIRE.md says of a connection that goes for a place or a descriptor, and of a client for which none goes.
 use crate::worlds::World;
-use simulated_clients::{Caller, Fault};
-
-/// How many milliseconds may pass in the middle of a turn, in which others take theirs, between what a worker does and the time that it notes.
-const MOMENT: u64 = 60;
+use simulated_clients::{Caller, Fault, IDLE};
 
 impl World {
     /// Whether a place or a descriptor is wanted for which no connection has gone: whatever goes now may go for that.
@@ -29,17 +26,24 @@ impl World {
         }
     }
 
-    /// Whether a worker has said by now what a connection has to lose: that has been so for as long as may pass until then.
+    /// Since when each worker has looked through its connections.
+    fn looked(&self) -> u64 {
+        self.settled.saturating_sub(self.look())
+    }
+
+    /// Whether a worker has said by now what a connection has to lose: that has been so for as long as may pass until then, so it isn't new.
     fn is_known(&self, caller: &Caller) -> bool {
-        let is_old = caller.ranked < self.settled.saturating_sub(self.look());
+        let is_old = caller.ranked < self.looked();
         caller.is_begun() && is_old
     }
 
-    /// The same, or its worker said so as it came, before this newcomer did, and nothing has changed since.
+    /// Whether a connection may go for this newcomer: it has been known for as long, or its worker said so as it came, before the newcomer did, and nothing has
+    /// changed since.
     fn is_known_before(&self, caller: &Caller, newcomer: &Caller) -> bool {
         let is_same = caller.ranked == caller.began && caller.watch.is_some();
         let is_first = caller.begun < newcomer.order;
-        self.is_known(caller) || caller.is_begun() && is_same && is_first
+        let is_there = self.is_known(caller) || caller.is_begun() && is_same && is_first;
+        is_there && !caller.may_move(self.looked())
     }
 
     /// Looks at a connection that goes for a place or a descriptor.
@@ -53,7 +57,10 @@ impl World {
             });
         }
         self.given = self.given.saturating_add(1);
-        let mut has_less = false;
+        if caller.does_move(self.now) {
+            self.blame(Fault::ReplyMoves);
+        }
+        let mut has_less = caller.loses() >= IDLE && caller.is_crowded(&self.callers, self.now);
         for other in &self.callers {
             has_less = has_less || self.goes_before(other, caller);
         }
@@ -62,12 +69,13 @@ impl World {
         }
     }
 
-    /// Whether one connection has less to lose than another, as their workers have known for so long that they said so.
+    /// Whether one connection has less to lose than another, as its worker has known for so long that it said so.
     fn goes_before(&self, one: &Caller, other: &Caller) -> bool {
-        let (loses, active) = one.rank();
-        let (other_loses, other_active) = other.rank();
-        let is_longer = active.saturating_add(MOMENT) < other_active;
-        let has_less = loses < other_loses || loses == other_loses && is_longer;
-        has_less && self.is_known(one) && self.is_known(other)
+        if !self.is_known(one) || one.may_move(self.looked()) {
+            return false;
+        }
+        let (loses, other_loses) = (one.loses(), other.least_lost(&self.callers, self.now));
+        let has_as_much = loses == other_loses && self.is_known(other);
+        loses < other_loses || has_as_much && one.counts_less(other, self.now)
     }
 }

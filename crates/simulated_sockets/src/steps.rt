@@ -34,15 +34,20 @@ impl<'a, O: Others> Steps for DrawnSteps<'a, '_, O> {
         Ok(Talk::new(socket.caller, seed, taste))
     }
 
-    fn go_on(&mut self, _alloc: Global, talk: &mut Talk, _socket: &DrawnSocket<'a>) -> Step {
+    fn go_on(
+        &mut self,
+        _alloc: Global,
+        talk: &mut Talk,
+        _socket: &DrawnSocket<'a>,
+    ) -> Option<Step> {
         let_others_go(self.world, self.others);
         let Some(mut world) = self.world.try_lock() else {
-            return broken();
+            return Some(broken());
         };
         let before = talk.begun;
         let step = talk.step(&mut *world);
         world.step_made(talk.caller, &step, talk.begun != before);
-        step
+        Some(step)
     }
 }
 

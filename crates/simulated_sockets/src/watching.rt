@@ -55,6 +55,7 @@ impl World {
         if let Some(caller) = self.callers.get_mut(at) {
             caller.heed(watch.interest, now);
             caller.watch = Some(watch);
+            caller.worker = Some(watch.set);
         }
         self.release_first();
         // One a place, and one newcomer a worker.

@@ -48,6 +48,8 @@ pub struct World {
     pub(crate) order: u64,
     pub(crate) accepted: u64,
     pub(crate) wanted: u64,
+    /// Whether the last call that was to accept a client found no descriptor.
+    pub(crate) lacks: bool,
     pub(crate) given: u64,
     /// How many bodies may go to give room, and when that was last one more.
     pub(crate) bodies_to_go: u64,
@@ -92,6 +94,7 @@ impl World {
             order: 0,
             accepted: 0,
             wanted: 0,
+            lacks: false,
             given: 0,
             bodies_to_go: 0,
             wanted_room: 0,
@@ -161,7 +164,8 @@ impl World {
     pub(crate) fn accept(&mut self) -> Result<usize, AcceptFault> {
         self.stir();
         let open = self.open();
-        if open >= self.descriptors {
+        self.lacks = open >= self.descriptors;
+        if self.lacks {
             return Err(AcceptFault::Lacks);
         }
         let Some(at) = self.first_to_come() else {
@@ -186,24 +190,15 @@ impl World {
         Ok(at)
     }
 
-    /// Whether a client waits for which a descriptor lacks. If so, a connection is to go for it.
-    pub(crate) fn lacks_for_client(&mut self) -> bool {
+    /// Whether a client waits. If so, and a descriptor lacks for it, a connection is to go.
+    pub(crate) fn has_client(&mut self) -> bool {
         self.stir();
         let waits = self.first_to_come().is_some();
-        if waits {
+        if waits && self.lacks {
             self.wanted = self.wanted.saturating_add(1);
             self.seen.lacks = self.seen.lacks.saturating_add(1);
         }
         waits
-    }
-
-    /// The socket of a client is made ready for steps. If that fails, the client isn't served.
-    pub(crate) fn prepare(&mut self, at: usize) -> bool {
-        let fails = self.fails();
-        if let Some(caller) = self.callers.get_mut(at) {
-            caller.is_refused = fails;
-        }
-        !fails
     }
 
     /// The connection of a client begins, unless there is no memory for it or the client is one of those that aren't served.

@@ -6,6 +6,7 @@ mod tcp;
 mod traits;
 
 pub use ready_sets::ReadySet;
+pub use tcp::bound_replies;
 pub use traits::{
     AcceptFault, ClientSocket, Listener, NotAccepted, Ready, SocketSet, Told, Waits, accept_one,
 };

@@ -6,6 +6,7 @@ ghost use Rattle.socket_sets.specs.Accepting.{LacksRoom};
 use crate::traits::{AcceptFault, ClientSocket, Listener};
 use libc::net as c;
 use libc::types::pollfd;
+use os::FromRawFd;
 use std::io;
 use std::io::{Error, Read};
 use std::net::{Shutdown, TcpListener, TcpStream};
@@ -34,21 +35,16 @@ fn option_of(number: u32) -> [u8; 16]
     ]
 }
 
-/// Asks the system to hold no more of a reply than so much. Where it doesn't, only slow clients are worse off.
-fn bound_send_room(stream: &TcpStream) {
-    let descriptor = stream.as_raw_fd();
-    let room = option_of(SEND_ROOM);
+/// Has the system send each reply at once to the clients of a listener, and hold no more than so much of one. A socket that is accepted has both of its listener.
+/// Where the system doesn't do it, only slow clients are worse off.
+pub fn bound_replies(listener: &TcpListener) {
+    let descriptor = listener.as_raw_fd();
+    let (at_once, room) = (option_of(1), option_of(SEND_ROOM));
+    let _ = unsafe { c::setsockopt(descriptor, c::IPPROTO_TCP, c::TCP_NODELAY, &at_once, 4) };
     let _ = unsafe { c::setsockopt(descriptor, c::SOL_SOCKET, c::SO_SNDBUF, &room, 4) };
 }
 
 impl ClientSocket for TcpStream {
-    /// It doesn't block, it sends each reply at once, and the system holds no more than so much of one. Only the first is needed.
-    fn prepare(&self) -> bool {
-        let _ = self.set_nodelay(true);
-        bound_send_room(self);
-        self.set_nonblocking(true).is_ok()
-    }
-
     fn read_some(&self, buffer: &mut [u8]) -> io::Result<usize> {
         let mut stream = self;
         stream.read(buffer)
@@ -57,6 +53,21 @@ impl ClientSocket for TcpStream {
     fn shut_down(&self) -> bool {
         self.shutdown(Shutdown::Write).is_ok()
     }
+}
+
+/// How many bytes an address has at most.
+const ADDRESS: u32 = 128;
+
+/// Accepts a client by one call of the system: a socket that doesn't block, and that no other program gets.
+fn accept_from(listener: &TcpListener) -> io::Result<TcpStream> {
+    let mut length = ADDRESS;
+    let how = c::SOCK_NONBLOCK | c::SOCK_CLOEXEC;
+    let descriptor = unsafe { c::accept4(listener.as_raw_fd(), &mut [0; 128], &mut length, how) };
+    if descriptor < 0 {
+        return Err(Error::from_raw_os_error(os::errno()));
+    }
+    // Nobody else has this descriptor.
+    Ok(unsafe { TcpStream::from_raw_fd(descriptor) })
 }
 
 /// Whether a client couldn't be accepted for want of a descriptor or of memory. Other failures are the client's own.
@@ -76,8 +87,8 @@ impl Listener<TcpStream> for TcpListener {
     ghost looked = { λ _. ⊤ };
 
     fn accept_client(&self) -> Result<TcpStream, AcceptFault> {
-        match self.accept() {
-            Ok((stream, _)) => Ok(stream),
+        match accept_from(self) {
+            Ok(stream) => Ok(stream),
             Err(error) if lacks_room(&error) => Err(AcceptFault::Lacks),
             Err(_) => Err(AcceptFault::Other),
         }

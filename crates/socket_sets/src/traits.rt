@@ -10,9 +10,6 @@ pub(crate) const MOST_TOLD: usize = 64;
 
 /// The socket of a client. It is closed where it is dropped.
 pub trait ClientSocket {
-    /// Makes it ready for steps: none of its calls waits from now on. Answers whether that was done.
-    fn prepare(&self) -> bool;
-
     /// Reads what is there to the front of `buffer`, and answers how many bytes it was: 0 only at the end of what the client sends.
     fn read_some(&self, buffer: &mut [u8]) -> io::Result<usize>
         ensures few { IfOk result (λ count. count ≤ length buffer.new) };
@@ -40,7 +37,7 @@ pub trait Listener<K> {
 
     ghost looked: { Bool → Type 0 };
 
-    /// Accepts a client by one call of the system. It doesn't wait for one.
+    /// Accepts a client by one call of the system. It doesn't wait for one, and no call of the client's socket waits.
     fn accept_client(&self) -> Result<K, AcceptFault>
         ensures failed { IfErr result (λ why. failed why) };
 

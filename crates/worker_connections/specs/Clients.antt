@@ -3,10 +3,11 @@ use Rattle.std.specs.Prelude.{◌+◌, ◌-◌, ◌*◌, ◌/◌, ◌==◌, ◌|
 use Rattle.connection_rules.specs.Holding.{is_first}
 use Rattle.connection_rules.specs.Paces.{begun, is_late, is_same, stepped}
 use Rattle.connection_rules.specs.Recent.{in_span, moved_more, of_late, unmoved}
-use Rattle.connection_rules.specs.Standings.{standing_of, turn_of as turn_among}
+use Rattle.connection_rules.specs.Standings.{is_new as is_new_by, number_of}
 use Rattle.connection_rules.specs.declared.limits.Limits.{Limits}
 use Rattle.connection_rules.specs.declared.paces.Stage.{Stage}
 use Rattle.connection_rules.specs.declared.paces.Stage.TheVariants as stage
+use Rattle.connection_rules.specs.declared.stakes.Stake.{Stake}
 use Rattle.worker_connections.specs.Steps.{is_body, moved_by}
 use Rattle.worker_connections.specs.declared.steps.Step.{Step}
 use Rattle.worker_connections.specs.declared.steps.Next.{Next}
@@ -31,6 +32,7 @@ span_of limits now = if limits.wait == 0 then 0 else now / limits.wait
 abbrev pub begun_client : ℕ → Limits → ℕ → Client
 begun_client number limits now = record {
   number = number;
+  came = now;
   state = Waits Read;
   pace = begun now;
   is_answered = false;
@@ -64,6 +66,7 @@ stage_in state said = said
 abbrev pub noted : State → Step → Limits → ℕ → Client → Client
 noted state step limits now old = record {
   number = old.number;
+  came = old.came;
   state = state;
   pace = stepped old.pace (stage_in state step.stage) step.read step.written now;
   is_answered = old.is_answered || step.answers;
@@ -166,14 +169,33 @@ is_due drains limits now client = (drains && is_idle client) || (runs client.sta
 abbrev pub due_number : Bool → Limits → ℕ → Client → Option ℕ
 due_number drains limits now client = if is_due drains limits now client then Some client.number else None
 
--- its number among those that go where a place is needed; one that a thread has is being answered
+-- how many bytes it moved of late
+abbrev pub moved_of_late : Limits → ℕ → Client → ℕ
+moved_of_late limits now client = of_late (in_span (span_of limits now) client.recent)
+
+-- a thread has one of its requests
 abbrev pub is_away : State → Bool
 is_away Away = true
 is_away state = false
 
-abbrev pub rank_of : Client → Option ℕ
-rank_of client =
-    if is_live client then Some (turn_among (standing_of client.pace.stage (client.is_answered || is_away client.state)) client.active) else None
+-- what is known of it where a place is needed
+abbrev pub stake_of : Limits → ℕ → Client → Stake
+stake_of limits now client = record {
+  stage = client.pace.stage;
+  is_at_work = is_away client.state;
+  is_answered = client.is_answered;
+  is_young = nat_lt (now - client.came) limits.fresh;
+  came = client.came;
+  active = client.active;
+  moved = moved_of_late limits now client;
+}
+
+abbrev pub is_new : Limits → ℕ → Client → Bool
+is_new limits now client = is_live client && is_new_by (stake_of limits now client)
+
+-- its number among those that go then, where new ones crowd the others or don't
+abbrev pub rank_of : (crowds : Bool) → Limits → ℕ → Client → Option ℕ
+rank_of crowds limits now client = if is_live client then number_of crowds (stake_of limits now client) else None
 
 -- since when its body waits for room
 abbrev pub since_in : State → Option ℕ
@@ -196,10 +218,6 @@ may_go_in kind holds state limits now client = false
 
 abbrev pub may_go : Kind → Limits → ℕ → Client → Bool
 may_go kind limits now client = may_go_in kind client.holds client.state limits now client
-
--- how many bytes it moved of late
-abbrev pub moved_of_late : Limits → ℕ → Client → ℕ
-moved_of_late limits now client = of_late (in_span (span_of limits now) client.recent)
 
 -- none moves as many bytes: it is 2 to the power of 62
 abbrev pub most_moved : ℕ

@@ -1,8 +1,9 @@
 -- The connections of a worker by their places, and what an event makes of them.
 use Rattle.std.specs.Prelude.{◌≡◌, ◌&&◌, ◌+◌, ◌<◌, ◌≤◌, ◌^◌, ◌==◌, ◌++◌, ◌∷◌, [], ℕ, Bool, true, false, List, Option, None, Some, IsSome, IfSome, if◌then◌else◌, length, count_by, nat_lt, not, option_map, slice_index_or, slice_set}
 use Rattle.std.specs.Option.{option_and_then}
+use Rattle.connection_rules.specs.Standings.{are_crowding}
 use Rattle.connection_rules.specs.declared.limits.Limits.{Limits}
-use Rattle.worker_connections.specs.Clients.{after, interest_of, is_live, turn_of as turn_of_client, unless_drained}
+use Rattle.worker_connections.specs.Clients.{after, interest_of, is_live, is_new, turn_of as turn_of_client, unless_drained}
 use Rattle.worker_connections.specs.declared.clients.Turn.{Turn}
 use Rattle.worker_connections.specs.declared.clients.Turn.TheVariants as turn
 use Rattle.worker_connections.specs.declared.steps.Step.{Step}
@@ -30,6 +31,18 @@ is_live_in (Some client) = is_live client
 -- how many connections have not ended
 abbrev pub count_live : List (Option Client) → ℕ
 count_live places = count_by is_live_in places
+
+-- how many are new
+abbrev pub is_new_in : Limits → ℕ → Option Client → Bool
+is_new_in limits now None = false
+is_new_in limits now (Some client) = is_new limits now client
+
+abbrev pub count_new : Limits → ℕ → List (Option Client) → ℕ
+count_new limits now places = count_by (is_new_in limits now) places
+
+-- they crowd the others
+abbrev pub do_crowd : Limits → ℕ → List (Option Client) → Bool
+do_crowd limits now places = are_crowding (count_new limits now places) (count_live places)
 
 -- the connection in a place is one of those that came
 abbrev pub CameBefore : ℕ → Option Client → Type 0

@@ -1,6 +1,5 @@
 //! What an event changes at a connection.
 ghost use Rattle.std.specs.Prelude.{◌≡◌};
-ghost use Rattle.worker_connections.specs.Clients.{is_live};
 ghost use Rattle.worker_connections.specs.Places as spec;
 
 use crate::clients::{Client, State};
@@ -53,17 +52,6 @@ fn fate_of(old: State, new: State) -> Fate
     }
 }
 
-/// What is to be done with a connection that is no longer there.
-fn fate_at_end(old: &Client) -> Fate
-    ensures { result ≡ spec.fate_at_end (is_live old.now) }
-{
-    if old.is_live() {
-        Fate::Ends
-    } else {
-        Fate::Stays
-    }
-}
-
 impl Change {
     /// The change from one connection to another.
     pub(crate) fn between(old: &Client, new: &Option<Client>) -> Change
@@ -71,7 +59,11 @@ impl Change {
     {
         match new {
             None => Change {
-                fate: fate_at_end(old),
+                fate: if old.is_live() {
+                    Fate::Ends
+                } else {
+                    Fate::Stays
+                },
                 waited: old.interest(),
                 waits: None,
                 held: old.holds,

@@ -40,6 +40,8 @@ pub enum Turn {
 pub struct Client {
     /// Its number, which no other connection of the worker has or had.
     pub number: u64,
+    /// When it came.
+    pub came: u64,
     pub state: State,
     pub pace: Pace,
     /// Whether a request was answered.
@@ -105,6 +107,7 @@ impl Client {
     {
         Client {
             number,
+            came: now,
             state: State::Waits(Interest::Read),
             pace: Pace::new(now),
             is_answered: false,

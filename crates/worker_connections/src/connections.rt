@@ -133,7 +133,7 @@ impl<K: Drop> Connections<K> {
         ensures held { self.new.held ≡ self.old.held }
         ensures kept { spec.KeepsBut name self.old.held None self.old.kept self.new.kept }
     {
-        if !self.places.has(name) {
+        if self.places.find(name).is_none() {
             return None;
         }
         take(&mut self.kept, name.place)

@@ -6,10 +6,10 @@ ghost use Rattle.worker_connections.specs.Places as spec;
 
 use crate::changes::Name;
 use crate::clients::Turn;
-use crate::numbers::{Due, ForRoom, Slow, ToGo, first_from, least};
+use crate::numbers::{Due, ForRoom, Slow, ToGo, count_new, first_from, least};
 use crate::places::Places;
 use crate::steps::Kind;
-use connection_rules::Limits;
+use connection_rules::{Limits, are_crowding};
 
 impl Places {
     /// What is to be done in the turn of the connection of this name.
@@ -48,11 +48,18 @@ impl Places {
         least(self.all(), &ForRoom)
     }
 
-    /// The place of the connection that goes first if a place is needed, and its number among those that may.
-    pub fn first_to_go(&self) -> Option<(usize, u64)>
-        ensures { result ≡ least_of (spec.numbers_from client.rank_of 0 self.now.places) }
+    /// The place of the connection that goes first if a place is needed, and its number among those that may. New ones crowd the others if they are more than a
+    /// quarter of the connections.
+    pub fn first_to_go(&self, limits: &Limits, now: u64) -> Option<(usize, u64)>
+        ensures { result ≡ least_of (spec.numbers_from
+            (client.rank_of (spec.do_crowd limits.now now self.now.places) limits.now now) 0 self.now.places) }
     {
-        least(self.all(), &ToGo)
+        let go = ToGo {
+            crowds: are_crowding(count_new(self.all(), limits, now), self.present()),
+            limits: *limits,
+            now,
+        };
+        least(self.all(), &go)
     }
 
     /// The place of the connection that goes first if room of a kind is needed, and its number among those that may: the one that moved least of late, and of

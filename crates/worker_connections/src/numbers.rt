@@ -1,10 +1,10 @@
 //! What is looked for among the connections of a worker.
-ghost use Rattle.std.specs.Prelude.{◌≡◌, ◌≤◌, ℕ, List, Option, option_map};
+ghost use Rattle.std.specs.Prelude.{◌≡◌, ◌≤◌, ℕ, List, Option, if◌then◌else◌, option_map};
 ghost use Rattle.connection_rules.specs.Least.{least_of};
-ghost use Rattle.worker_connections.specs.Places.{IsFirstFrom, number_in, numbers_from};
+ghost use Rattle.worker_connections.specs.Places.{IsFirstFrom, count_new, is_new_in, number_in, numbers_from};
 ghost use Rattle.worker_connections.specs.Clients as spec;
 
-use crate::clients::Client;
+use crate::clients::{Client, State};
 use crate::steps::Kind;
 use connection_rules::{Least, Limits};
 
@@ -22,15 +22,24 @@ pub(crate) trait Numbers {
 
 /// Those that go if a place is needed.
 #[derive(Drop)]
-pub(crate) struct ToGo;
+pub(crate) struct ToGo {
+    /// Whether new ones crowd the others.
+    pub(crate) crowds: bool,
+    pub(crate) limits: Limits,
+    pub(crate) now: u64,
+}
 
 impl Numbers for ToGo {
     ghost use Rattle.worker_connections.specs.Clients as spec;
 
-    ghost number_of = { λ _ client. spec.rank_of client };
+    ghost number_of = { λ go client. spec.rank_of go.crowds go.limits go.now client };
 
     fn number(&self, client: &Client) -> Option<u64> {
-        client.rank()
+        if client.is_live() {
+            client.stake(&self.limits, self.now).number(self.crowds)
+        } else {
+            None
+        }
     }
 }
 
@@ -44,7 +53,10 @@ impl Numbers for ForRoom {
     ghost number_of = { λ _ client. spec.waits_since client };
 
     fn number(&self, client: &Client) -> Option<u64> {
-        client.waits_since()
+        match client.state {
+            State::ForRoom(since) => Some(since),
+            _ => None,
+        }
     }
 }
 
@@ -98,6 +110,27 @@ fn number_in<N: Numbers>(numbers: &N, place: &Option<Client>) -> Option<u64>
         Some(client) => numbers.number(client),
         None => None,
     }
+}
+
+/// 1 if the connection in a place is new, else 0.
+fn new_in(place: &Option<Client>, limits: &Limits, now: u64) -> u64
+    ensures { result ≡ (if is_new_in limits.now now place.now then 1 else 0) }
+{
+    match place {
+        Some(client) if client.is_live() && client.stake(limits, now).is_new() => 1,
+        _ => 0,
+    }
+}
+
+/// How many connections are new.
+pub(crate) fn count_new(places: &[Option<Client>], limits: &Limits, now: u64) -> u64
+    ensures { result ≡ count_new limits.now now places.now }
+{
+    let mut count = 0;
+    'counts: for at in 0..places.len() {
+        count += new_in(&places[at], limits, now);
+    }
+    count
 }
 
 /// The place of the one with the least number, and that number; the first of those with the same.

@@ -1,5 +1,5 @@
 //! The connections of a worker, by their places.
-ghost use Rattle.std.specs.Prelude.{◌≡◌, ◌+◌, ◌<◌, ◌≤◌, ◌↔◌, [], false, true, IfOk, IfSome, IsTrue, OnErr, OnOk, is_some, length, option_map, slice_set};
+ghost use Rattle.std.specs.Prelude.{◌≡◌, ◌+◌, ◌<◌, ◌≤◌, ◌↔◌, [], false, true, IfOk, IfSome, IsTrue, OnErr, OnOk, length, option_map, slice_set};
 ghost use Rattle.worker_connections.specs.Clients as client;
 ghost use Rattle.worker_connections.specs.Places as spec;
 
@@ -132,13 +132,6 @@ impl Places {
         }
     }
 
-    /// Whether there is a connection of this name.
-    pub(crate) fn has(&self, name: Name) -> bool
-        ensures { result ≡ is_some (spec.named name self.now.places) }
-    {
-        self.find(name).is_some()
-    }
-
     /// Puts what became of a connection into its place.
     fn replace(&mut self, at: usize, old: &Client, new: Option<Client>) -> Change
         requires there { spec.place_at self.old.places at ≡ Some old.now }
@@ -233,6 +226,13 @@ impl Places {
         ensures { result ≡ length self.now.places }
     {
         self.places.len()
+    }
+
+    /// How many have not ended.
+    pub(crate) fn present(&self) -> u64
+        ensures { result ≡ spec.count_live self.now.places }
+    {
+        self.came - self.gone
     }
 
     /// Whether the connection in a place has not ended.

@@ -4,32 +4,24 @@ ghost use Rattle.worker_connections.specs.Clients as spec;
 
 use crate::clients::{Client, State, span_of};
 use crate::steps::{Holding, Kind};
-use connection_rules::{Limits, Standing};
+use connection_rules::{Limits, Stake};
 
 /// From so many bytes on it makes no difference how many were moved. No connection moves as many.
 const MOST_MOVED: u64 = 4_611_686_018_427_387_904;
 
 impl Client {
-    /// Its number among those that go if a place is needed. One that a thread has is being answered, and counts as answered.
-    pub(crate) fn rank(&self) -> Option<u64>
-        ensures { result ≡ spec.rank_of self.now }
+    /// What is known of it where a place is needed.
+    pub(crate) fn stake(&self, limits: &Limits, now: u64) -> Stake
+        ensures { result ≡ spec.stake_of limits.now now self.now }
     {
-        let is_answered = self.is_answered || self.state == State::Away;
-        let standing = Standing::of(self.pace.stage, is_answered);
-        if self.is_live() {
-            Some(standing.turn(self.active))
-        } else {
-            None
-        }
-    }
-
-    /// Since when its body waits for room, if it does.
-    pub(crate) fn waits_since(&self) -> Option<u64>
-        ensures { result ≡ spec.waits_since self.now }
-    {
-        match self.state {
-            State::ForRoom(since) => Some(since),
-            _ => None,
+        Stake {
+            stage: self.pace.stage,
+            is_at_work: self.state == State::Away,
+            is_answered: self.is_answered,
+            is_young: now.saturating_sub(self.came) < limits.fresh,
+            came: self.came,
+            active: self.active,
+            moved: self.recent.of_late(span_of(limits, now)),
         }
     }
 

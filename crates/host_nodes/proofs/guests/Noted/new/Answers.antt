@@ -11,9 +11,9 @@ pub invariant_of-result : goal.invariant_of-result
 invariant_of-result g c =
     let answers = IsGuestAnswer (shows g.M.Houses.did g.M.Houses.fails) in
     record {
-      carried = ∣ (
+      carried = ∣ (λ d rests. (
         c.args.note,
-        subst (λ (t : List Event). Carries answers notes (Unit {0}) [] c.args.note t c.args.note c.args.connection) (sym c.new.ensures)
-            (new_connection answers notes (Unit {0}) [] c.args.note c.args.connection c.requires),
-      ) ∣₁;
+        subst (λ (t : List Event). Carries answers notes (Unit {0}) [] c.args.note t c.args.note d) (sym c.new.ensures)
+            (new_connection answers notes (Unit {0}) [] c.args.note d rests),
+      )) ∣₁;
     }
