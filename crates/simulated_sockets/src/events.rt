@@ -133,6 +133,7 @@ impl World {
     pub fn happen(&mut self, event: &Event) -> Result<(), AllocError> {
         self.stirs = STIRS;
         self.inners = INNERS;
+        self.begin_turn();
         match *event {
             Event::Connects(seed) => self.callers.push(Caller::new(seed))?,
             Event::Sends(number, bytes) => self.send(number, bytes),

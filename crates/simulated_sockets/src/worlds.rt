@@ -58,6 +58,8 @@ pub struct World {
     pub(crate) given_room: u64,
     /// Which body may always go on.
     pub(crate) first: First,
+    /// What the replies held at most since this turn began: a worker counts what its step lets go of a moment later, and others may take turns before it does.
+    pub(crate) most_replies: u64,
     /// When all workers looked through their connections.
     pub(crate) settled: u64,
     pub(crate) draws: Draws,
@@ -101,6 +103,7 @@ impl World {
             given_room: 0,
             settled: 0,
             first: First::Nobody,
+            most_replies: 0,
             draws: Draws::new(plan.seed),
             seen: Seen::new(),
             stirs: 0,
@@ -230,6 +233,7 @@ impl World {
         {
             self.appoint(at);
         }
+        self.note_replies();
         let Some(caller) = self.callers.get_mut(at) else {
             return;
         };

@@ -52,6 +52,9 @@ struct Played<'p, 'a, R, O> {
 impl<R: Wait, O: Others> Played<'_, '_, R, O> {
     /// A worker waits, and does what that told, or does nothing yet, unless the node is over.
     fn turn(&self, number: usize, acts: bool) {
+        if let Some(mut world) = self.world.try_lock() {
+            world.begin_turn();
+        }
         if let Some(at) = number.checked_rem(self.workers) {
             self.top.happen(Inner::Turn(at, acts));
         }
