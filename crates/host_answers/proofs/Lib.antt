@@ -4,5 +4,6 @@ pub mod Lines
 pub mod Reading
 pub mod FileReplies
 pub mod Withheld
+pub mod Tagged
 pub mod Growing
 pub mod Seen

@@ -25,6 +25,9 @@ use Rattle.host_connection.specs.declared.phases.BodyPart.{BodyPart}
 use Rattle.host_connection.specs.declared.phases.Phase.{Phase}
 use Rattle.host_connection.specs.declared.phases.Phase.TheVariants as phase
 use Rattle.host_connection.specs.declared.phases.Sending.{Sending}
+use Rattle.host_connection.specs.declared.wordings.Wording.{Wording}
+use Rattle.host_connection.specs.declared.wordings.Wording.TheVariants as wording
+use Rattle.host_connection.specs.Wordings.{size_kept, worded}
 use Rattle.host_connection.specs.declared.requests.Request.{Request}
 use Rattle.host_connection.specs.declared.steps.Connection.{Connection}
 use Rattle.host_connection.specs.declared.stops.Stop.{Stop}
@@ -59,8 +62,12 @@ at_fields answers saw waits start now first host c buffer n wire number carried 
     (subst (λ b. Carried answers saw waits start first now host b c.out n c.phase) (sym wire) carried)
 
 -- some of a reply is to be written
+some_of : (close head_only : Bool) (w : Wording) → 0 < size_kept w → 0 < length (worded close head_only w)
+some_of close head_only (wording.Made reply) some = omega (arith, length-append {A = ℕ})
+some_of close head_only (wording.Kept text) some = some
+
 pub reply_some : (s : Sending) → 0 < length (text_of s)
-reply_some s = omega (arith, length-append {A = ℕ})
+reply_some s = some_of s.close s.head_only s.wording s.some
 
 some_first : (s : Sending) (out : Gathered) → out ≡ nothing → out.sent < length (text_of s)
 some_first s out fresh = subst (λ (o : Gathered). o.sent < length (text_of s)) (sym fresh) (reply_some s)

@@ -7,6 +7,7 @@ pub mod TimedConnections
 pub mod InPhases
 pub mod NoHead
 pub mod Carried
+pub mod Again
 pub mod Unfinished
 pub mod Walking
 pub mod Standing

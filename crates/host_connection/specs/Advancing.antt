@@ -88,3 +88,7 @@ pub record Advances (result : Progress) (n : ℕ) (old : Phase) (new_n : ℕ) (n
   pub counts : n ≤ new_n
   pub tells : TellsBody result n old new_n new
   pub memory : RemembersMemory old new
+
+-- it is where it was, or phases were gone through that others may follow
+abbrev pub IsAsBefore : (n : ℕ) → (old : Phase) → (new_n : ℕ) → (new : Phase) → Type 0
+IsAsBefore n old new_n new = ((new_n ≡ n) × (new ≡ old)) ⊎ Advances progress.More n old new_n new

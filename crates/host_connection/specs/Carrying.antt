@@ -9,8 +9,7 @@ use Rattle.http_wire.specs.Halting.{Together}
 use Rattle.http_wire.specs.HeadText.{CutShort}
 use Rattle.http_wire.specs.Requests.{RequestParts}
 use Rattle.http_wire.specs.Timing.{Event, all_put, GoesOn, Gives, Ran, Steps, Timely}
-use Rattle.host_replies.specs.Bodies.{answer_of}
-use Rattle.host_replies.specs.Replies.{Answer, closes, sent_text}
+use Rattle.host_replies.specs.Replies.{Answer, closes}
 use Rattle.host_connection.specs.declared.connections.ConnectionFault.TheVariants as fault
 use Rattle.host_connection.specs.declared.phases.Phase.{Phase}
 use Rattle.host_connection.specs.declared.phases.Phase.TheVariants as phase
@@ -23,9 +22,11 @@ use Rattle.host_connection.specs.declared.steps.Wants.{Wants}
 use Rattle.host_connection.specs.declared.steps.Wants.TheVariants as wants
 use Rattle.host_connection.specs.declared.stops.Stop.{Stop}
 use Rattle.host_connection.specs.declared.stops.Stop.TheVariants as stop
+use Rattle.host_connection.specs.Again.{IsAgain}
 use Rattle.host_connection.specs.Phases.{HeadSoFar, InviteSoFar, BodySoFar, ReplySoFar, RefusalSoFar, refusal_text}
 use Rattle.host_connection.specs.Serving.{Answering, AreServed, Announced, IsSent, Stream, is_last_at, limit_of}
 use Rattle.host_connection.specs.Timing.{Connects, IsCaughtUp}
+use Rattle.host_connection.specs.Wordings.{is_kept, worded}
 
 -- ---- before a turn
 
@@ -59,7 +60,7 @@ pub record InTurn {S H : Type 0} (answers : Answering H) (saw : S → Event → 
 
 -- the bytes of a reply that is on its way
 abbrev pub text_of : Sending → List ℕ
-text_of s = sent_text s.close s.head_only (answer_of s.reply)
+text_of s = worded s.close s.head_only s.wording
 
 -- the reply to a request that was read: a front of it was written, and what is gathered of it comes next
 pub record Replying {S H : Type 0} (answers : Answering H) (saw : S → Event → S → Type 0) (began now : S) (before host : H) (is_last : Bool) (begun buffer : List ℕ) (out : Gathered) (s : Sending)
@@ -232,3 +233,11 @@ IsAnswering answers host request next (phase.Ended result) = ⊥
 abbrev pub FollowsReply : (close : Bool) → (n new_n : ℕ) → Phase → Type 0
 FollowsReply close n new_n p = (((close ≡ true) ⊎ (100 ≤ n)) × (new_n ≡ n) × (p ≡ phase.Ended (Ok tt)))
     ⊎ ((close ≡ false) × (n < 100) × (new_n ≡ n + 1) × (p ≡ phase.Head))
+
+-- the reply to this head is on its way again
+abbrev pub BeginsAgain : {H : Type 0} → Answering H → (host : H) → (head : List ℕ) → (next : H) → Phase → Type 0
+BeginsAgain answers host head next phase.Head = ⊥
+BeginsAgain answers host head next (phase.Invite i) = ⊥
+BeginsAgain answers host head next (phase.Body b) = ⊥
+BeginsAgain answers host head next (phase.Reply s) = IsAgain answers host head (text_of s) next × (s.close ≡ false) × (is_kept s.wording ≡ true)
+BeginsAgain answers host head next (phase.Ended result) = ⊥

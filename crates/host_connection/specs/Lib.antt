@@ -1,5 +1,7 @@
 -- what public clauses say
 pub mod Serving
+pub mod Again
+pub mod Wordings
 pub mod Timing
 pub mod Stopping
 pub mod Phases

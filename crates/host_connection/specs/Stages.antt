@@ -1,6 +1,5 @@
 -- How far a connection has come.
 use Rattle.std.specs.Prelude.{ℕ, zero, suc, List, Option, None, length, vec_len}
-use Rattle.host_replies.specs.HeldFiles.{held_file}
 use Rattle.host_replies.specs.declared.replies.held_files.HeldFile.{HeldFile}
 use Rattle.http_wire.specs.Gathering.{Gathered}
 use Rattle.host_connection.specs.declared.phases.Phase.{Phase}
@@ -8,6 +7,7 @@ use Rattle.host_connection.specs.declared.phases.Phase.TheVariants as phase
 use Rattle.host_connection.specs.declared.steps.Connection.{Connection}
 use Rattle.host_connection.specs.declared.steps.stages.Stage.{Stage}
 use Rattle.host_connection.specs.declared.steps.stages.Stage.TheVariants as stage
+use Rattle.host_connection.specs.Wordings.{held_for}
 
 -- where a head is read, by how many bytes came and were not taken
 abbrev pub head_stage : ℕ → Stage
@@ -27,5 +27,5 @@ stage_of c = stage_in c.wire c.out c.phase
 
 -- what is held of a file by what it is in the middle of: by a reply that is on its way
 abbrev pub held_by : Phase → Option HeldFile
-held_by (phase.Reply s) = held_file s.reply
+held_by (phase.Reply s) = held_for s.wording
 held_by phase = None

@@ -10,6 +10,7 @@ mod resting;
 mod services;
 mod steps;
 mod stops;
+mod wordings;
 
 pub use connections::{ConnectionFault, serve_connection};
 pub use meters::Metered;

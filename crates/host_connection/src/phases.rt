@@ -1,10 +1,10 @@
 //! What a connection is in the middle of.
 ghost use Rattle.std.specs.Prelude.{◌≡◌, ◌<◌, ◌≤◌, true, length, vec_len};
 ghost use Rattle.http_wire.specs.Expectations.{continue_text};
-ghost use Rattle.host_replies.specs.Bodies.{answer_of};
+ghost use Rattle.host_connection.specs.Wordings.{size_kept, withholds};
 
 use crate::connections::ConnectionFault;
-use host_replies::Reply;
+use crate::wordings::Wording;
 use http_wire::Head;
 
 /// An interim reply that is on its way to a client, which sends a body of this size after it.
@@ -29,11 +29,12 @@ pub struct BodyPart {
 /// A reply that is on its way.
 #[derive(Drop)]
 pub struct Sending {
-    pub reply: Reply,
+    pub wording: Wording,
     /// Whether the connection ends after it.
     pub close: bool,
     pub head_only: bool,
-    ghost withheld: { (answer_of reply).withheld ≡ true → head_only ≡ true },
+    ghost withheld: { withholds wording ≡ true → head_only ≡ true },
+    ghost some: { 0 < size_kept wording },
 }
 
 /// What a connection is in the middle of.

@@ -1,5 +1,6 @@
 //! A request, once it is read.
 use crate::phases::BodyPart;
+use crate::stops::announced;
 use http::Version as HttpVersion;
 use http_wire::Head;
 
@@ -12,7 +13,8 @@ pub struct Request {
 }
 
 impl Request {
-    ghost use Rattle.std.specs.Prelude.{◌≡◌, vec_len};
+    ghost use Rattle.std.specs.Prelude.{◌≡◌, [], vec_len, IsTrue};
+    ghost use Rattle.host_connection.specs.Again.{IsWhole};
     ghost use Rattle.host_replies.specs.Replies as replies;
 
     /// Whether the connection ends after the reply (RFC 9112, section 9.6).
@@ -21,6 +23,22 @@ impl Request {
     {
         self.is_last || self.head.version() == HttpVersion::HTTP_10 || self.head.asks_close()
     }
+
+    /// Whether its head is a whole request by itself, after which the connection goes on: another request with the same head may be answered without a look
+    /// at anything else of it.
+    pub fn is_whole_by_head(&self) -> bool
+        ensures body { IsTrue result → self.now.body.items ≡ [] }
+        ensures whole { IsTrue result → IsWhole self.now.head }
+    {
+        if !self.body.is_empty() || self.closes() || self.head.expects_continue() {
+            return false;
+        }
+        match announced(&self.head) {
+            Ok(size) => size == 0,
+            Err(_) => false,
+        }
+    }
+
     /// Its body as it is read, once all of it came.
     pub(crate) fn into_part(self) -> BodyPart
         ensures head { result.head ≡ self.head }

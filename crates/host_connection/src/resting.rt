@@ -22,7 +22,7 @@ impl Connection {
         ensures rests { IfSome result (λ number. IsResting number self.now) }
     {
         match &self.phase {
-            Phase::Head => number_before(self.wire.buffered(), self.number),
+            Phase::Head => number_before(self.wire.bytes().len(), self.number),
             _ => None,
         }
     }

@@ -6,6 +6,7 @@ ghost use Rattle.host_connection.specs.Advancing.{phases_left, Advances, Goes, I
 ghost use Rattle.host_connection.specs.Carrying.{until_asked, AnswersOnce, Asks, Carries, IsFresh, Leads, MayWait};
 ghost use Rattle.host_connection.specs.Resting.{IsResting};
 
+mod recalls;
 mod stages;
 mod turns;
 
@@ -112,8 +113,30 @@ impl Connection {
         }
     }
 
-    // Goes through some phases.
+    // Goes through some phases. A reply that the service keeps is sent before the request is read further than its head.
     fn go_through<D: Duplex, S: Service>(
+        &mut self,
+        alloc: Global,
+        duplex: &mut D,
+        service: &mut S,
+    ) -> Progress
+        ensures leads { (start : D) (first : S)
+            → Carries S.answers D.saw (MayWait D.waits) start first duplex.old service.old self.old
+            → Leads S.answers D.saw (MayWait D.waits) D.waits start first duplex.new service.new self.new result }
+        ensures led { (events : List Event) × Steps D.saw duplex.old events duplex.new }
+        ensures advances { Advances result self.old.number self.old.phase self.new.number self.new.phase }
+        ensures asks { AnswersOnce S.answers service.old service.new }
+        ensures later { result ≡ Progress.Postponed → S.postpones × (service.new ≡ service.old) }
+        ensures grows { S.grows service.old service.new }
+    {
+        match self.recall(duplex, service) {
+            Some(progress) => progress,
+            None => self.go_through_phases(alloc, duplex, service),
+        }
+    }
+
+    // Goes through some phases, with no reply that is kept.
+    fn go_through_phases<D: Duplex, S: Service>(
         &mut self,
         alloc: Global,
         duplex: &mut D,

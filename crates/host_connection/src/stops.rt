@@ -8,6 +8,7 @@ use host_replies::is_head_only;
 use http_wire::{BodyFault, Head, HeadFault, LengthFault, check_body};
 
 /// Why no request was read.
+#[derive(Drop)]
 pub enum Stop {
     /// The input ended.
     Ended,

@@ -45,7 +45,8 @@ fn serve_nodes<
     lines: &mut O,
 ) -> Result<(), Failure> {
     let (start, parsing) = (Start::new(tasks.len() as u64), Mutex::new(()));
-    let means = Means::new(around.access, &parsing, around.stop);
+    let kept = kept_by_each(workers_in(tasks.as_slice()), ports.len());
+    let means = Means::new(around.access, &parsing, around.stop, kept);
     let overseen = Overseen::new(shared, ports, around);
     let (done, overseen) = share_out(
         shared,
@@ -56,6 +57,14 @@ fn serve_nodes<
     );
     overseen?;
     Ok(done?)
+}
+
+/// How many bytes of memory a node takes at most to keep replies.
+const KEPT: usize = 8_388_608;
+
+/// How many of these a worker takes, if there are so many workers at so many nodes.
+fn kept_by_each(workers: u64, nodes: usize) -> usize {
+    KEPT.saturating_mul(nodes) / workers.max(1) as usize
 }
 
 /// How many of these tasks are those of workers.

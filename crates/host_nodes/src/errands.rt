@@ -81,7 +81,7 @@ fn steps_of<
     );
     let files = GroupFiles::new(rt, errands.group);
     let house = SharedHouse::new(sight, desk, files).ok()?;
-    Some(GuestSteps::new(Guest::new(house, Patient)))
+    Some(GuestSteps::new(Guest::new(house, Patient, None)))
 }
 
 impl<

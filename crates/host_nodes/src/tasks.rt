@@ -16,7 +16,7 @@ use node_process::Stop;
 use peer_link::PeerConnection;
 use seen_lists::ListName;
 use shared_desk::Desk;
-use shared_house::{CachedFiles, DeskVisitor, Guest, Quick, SharedHouse};
+use shared_house::{CachedFiles, DeskVisitor, Guest, Memory, Quick, SharedHouse};
 use site_desk::{DeskName, KnownFiles, Notice, Seat};
 use std::alloc::Global;
 use std::net::{Net, TcpStream};
@@ -61,15 +61,23 @@ pub(crate) struct Means<'a, 'l, Q> {
     /// The turn to parse a long body.
     pub(crate) parsing: &'l Mutex<()>,
     pub(crate) stop: &'l Stop,
+    /// How many bytes of memory a worker takes to keep replies.
+    pub(crate) kept: usize,
 }
 
 impl<'a, 'l, Q> Means<'a, 'l, Q> {
     /// These.
-    pub(crate) fn new(access: &'a Q, parsing: &'l Mutex<()>, stop: &'l Stop) -> Means<'a, 'l, Q> {
+    pub(crate) fn new(
+        access: &'a Q,
+        parsing: &'l Mutex<()>,
+        stop: &'l Stop,
+        kept: usize,
+    ) -> Means<'a, 'l, Q> {
         Means {
             access,
             parsing,
             stop,
+            kept,
         }
     }
 }
@@ -95,11 +103,12 @@ fn steps_of<
     parsing: &'a Mutex<()>,
     place: &HostPlace<'a, 'g, 'h, J, K, D, R, S, Q, U, N>,
     visitor: DeskVisitor<J>,
+    memory: Memory<J>,
 ) -> Option<HostSteps<'a, 'g, 'h, J, K, D, S, T, R, Q, U, N>> {
     let desk = SeatedDesk::new(rt, desk, access, place.seat, parsing);
     let files = CachedFiles::new(rt, place.group);
     let house = SharedHouse::new(visitor, desk, files).ok()?;
-    Some(GuestSteps::new(Guest::new(house, Quick)))
+    Some(GuestSteps::new(Guest::new(house, Quick, Some(memory))))
 }
 
 /// Serves the clients of a node with this visitor, until it ends.
@@ -124,9 +133,10 @@ fn serve_with<
     parsing: &'a Mutex<()>,
     place: &HostPlace<'a, 'g, 'h, J, K, D, R, S, Q, U, N>,
     visitor: DeskVisitor<J>,
+    memory: Memory<J>,
 ) {
     let node = place.node;
-    if let Some(steps) = steps_of(rt, desk, access, parsing, place, visitor) {
+    if let Some(steps) = steps_of(rt, desk, access, parsing, place, visitor, memory) {
         serve_tcp(rt, alloc, node, steps);
     }
 }
@@ -212,7 +222,8 @@ fn do_task<
     match task {
         Task::Serve(at, visitor) => {
             if let Some(place) = place_at(shared, at) {
-                serve_with(rt, alloc, desk, access, parsing, &place, visitor);
+                let memory = Memory::new(alloc, means.kept);
+                serve_with(rt, alloc, desk, access, parsing, &place, visitor, memory);
             }
         }
         Task::Errands(at) => {

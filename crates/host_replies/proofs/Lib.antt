@@ -1,2 +1,3 @@
 mod FieldTexts
 mod EntityTags
+pub mod SmallTexts

@@ -1,5 +1,5 @@
 //! Replies, before they are written.
-ghost use Rattle.std.specs.Prelude.{◌≡◌, ◌≢◌, ◌↔◌, [], All, length, true, false, Some, None, IsTrue, IfOk, IfErr, OnErr, Err, IsErrOf, MatchOption, option_map};
+ghost use Rattle.std.specs.Prelude.{◌≡◌, ◌≢◌, ◌↔◌, [], All, length, true, false, Some, None, IsSome, IsTrue, IfOk, IfErr, OnErr, Err, IsErrOf, MatchOption, option_map};
 ghost use Rattle.std.specs.List.{concat};
 ghost use Rattle.http_wire.specs.Replies.{fields_of};
 ghost use Rattle.host_api.specs.Texts.{has_cell, told_text};
@@ -18,6 +18,7 @@ ghost use Rattle.host_replies.specs.Replies.{told_answer, refused_answer, part_a
 
 mod held_files;
 mod sends;
+mod small_texts;
 
 use crate::bodies::{Body, BodyText};
 use crate::media_types::{MediaType, file_type};
@@ -144,6 +145,13 @@ impl Reply {
     {
         let text = BodyText::Fixed(NO_MEMORY);
         Reply::with_json(&Told::Refused(Refusal::OutOfMemory), text)
+    }
+
+    /// Whether it answers with a whole file, or tells of one to HEAD.
+    pub fn is_of_whole_file(&self) -> bool
+        ensures { IsTrue result ↔ (((answer_of self.now).status ≡ 200) × IsSome (answer_of self.now).etag) }
+    {
+        self.status == StatusCode::OK && self.etag.is_some()
     }
 
     // Whether it names no file, no range and no method.

@@ -4,8 +4,9 @@ use Rattle.std.proofs.lemmas.List.{append_cancel_left, length-take-le, take_at, 
 use Rattle.http_wire.specs.declared.halts.Halt.{Halt}
 use Rattle.http_wire.specs.declared.halts.Halt.TheVariants.{Failed, WouldWait}
 use Rattle.http_wire.specs.declared.sinks.WriteFailed.{WriteFailed}
-use Rattle.http_wire.specs.Gathering.{Gathered, from_front, nothing, GoesOnFrom, IsAmid, IsCounted, Written, WrittenNow, WritesEnd, Puts}
+use Rattle.http_wire.specs.Gathering.{Gathered, from_front, nothing, GoesOnFrom, IsAmid, IsCounted, Written, WrittenNow, WritesEnd, WritesOn, Puts}
 use Rattle.http_wire.specs.Timing.{Event, all_put, NoRead, Ran}
+use Rattle.http_wire.proofs.Writes.{on_ok}
 
 -- the text is what was written of it, and what is left
 text_is : (written text : List ℕ) (count : ℕ) (rest : List ℕ) → Written written text count rest → text ≡ written ++ rest
@@ -96,6 +97,25 @@ reply_goes_on saw old new result text at o n counted amid none ran = record {
   timely = ran.timely;
   claimed = from_at result text at n ran.events ran.claimed.writes.ends none (now_of result text at o n ran.events counted amid ran.claimed);
 }
+
+-- what is left of a text behind what was taken is written at once
+pub left_goes_on : {S : Type 0} (saw : S → Event → S → Type 0) (old new : S) (result : Result (Unit {0}) (Halt WriteFailed)) (text left : List ℕ) (at : ℕ) (o m n : Gathered) → IsCounted o → IsAmid text at o
+    → m.sent ≡ o.sent → m.rest ≡ o.rest → left ≡ drop (from_front o).passed text → m.passed ≡ (from_front o).passed - length text → n.passed ≡ m.passed → OnOk result (n.rest ≡ [])
+    → Ran saw NoRead old new (WritesOn result (left ++ ([] ++ [])) m.sent n.sent m.rest n.rest) → Ran saw NoRead old new (GoesOnFrom result text at n)
+left_goes_on saw old new result text left at o m n counted amid sent rest is passed same none ran =
+    let more = drop (from_front o).passed text in
+    let all : WritesOn result more m.sent n.sent m.rest n.rest ran.events =
+    subst (λ t. WritesOn result t m.sent n.sent m.rest n.rest ran.events) (append-nil left ∙ is) ran.claimed in
+    let counts : WritesOn result more o.sent n.sent m.rest n.rest ran.events = subst (λ s. WritesOn result more s n.sent m.rest n.rest ran.events) sent all in
+    reply_goes_on saw old new result text at o n counted amid none (record {
+      events = ran.events;
+      steps = ran.steps;
+      timely = ran.timely;
+      claimed = record {
+        writes = subst (λ r. WritesOn result more o.sent n.sent r n.rest ran.events) rest counts;
+        passed = on_ok result (n.passed ≡ (from_front o).passed - length text) (same ∙ passed);
+      };
+    })
 
 -- nothing of a text was written where one begins
 pub amid_first : (text : List ℕ) (out : Gathered) → out ≡ nothing → IsAmid text 0 out

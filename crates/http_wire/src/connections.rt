@@ -1,16 +1,9 @@
 //! Checks whether a request asks to close its connection.
 ghost use Rattle.std.specs.Prelude.{◌≡◌, reverse};
-ghost use Rattle.httparse.specs.Grammar.{is_ows, skip_ows};
+ghost use Rattle.httparse.specs.Grammar.{skip_ows};
 ghost use Rattle.http_wire.specs.Connections as connections;
 
 use crate::heads::Head;
-
-// Whether a byte is a space or a tab.
-fn is_blank(byte: u8) -> bool
-    ensures { result ≡ is_ows byte }
-{
-    matches!(byte, b' ' | b'\t')
-}
 
 // Returns a text without its leading blanks.
 fn trim_front(text: &[u8]) -> &[u8]
@@ -18,7 +11,7 @@ fn trim_front(text: &[u8]) -> &[u8]
 {
     let mut rest = text;
     while let Some((first, others)) = rest.split_first() {
-        if !is_blank(*first) {
+        if !matches!(*first, b' ' | b'\t') {
             return rest;
         }
         rest = others;
@@ -32,7 +25,7 @@ fn trim_back(text: &[u8]) -> &[u8]
 {
     let mut rest = text;
     while let Some((last, others)) = rest.split_last() {
-        if !is_blank(*last) {
+        if !matches!(*last, b' ' | b'\t') {
             return rest;
         }
         rest = others;

@@ -25,7 +25,7 @@ fn put_all<D: Duplex>(
     ensures waits { IsErrOf result Halt.WouldWait → D.waits duplex.new }
 {
     put_pieces(duplex, out, pieces)?;
-    out.flush(duplex)
+    out.write(duplex, &[], &[], &[])
 }
 
 // Writes the pieces of a request.

@@ -1,10 +1,10 @@
 //! Heads of requests.
-ghost use Rattle.std.specs.Prelude.{◌≡◌, ◌↔◌, IsTrue, length, slice_get, IfOk, IfErr, OnErr, Err};
+ghost use Rattle.std.specs.Prelude.{◌≡◌, length, IfOk, IfErr, OnErr, Err};
 ghost use Rattle.httparse.specs.Grammar.{RequestHead, print_request};
 ghost use Rattle.httparse.specs.Spans.{IsRequestAt, IsRequestWithin};
 ghost use Rattle.http_wire.specs.Fields.{values_of};
 ghost use Rattle.http_wire.specs.HeadText.{IsHeadText};
-ghost use Rattle.http_wire.specs.Requests.{IsServed, version_of, SaysSomething, IsParsedAs};
+ghost use Rattle.http_wire.specs.Requests.{IsServed, version_of, Says, SaysSomething, IsParsedAs};
 
 use crate::faults::HeadFault;
 use crate::fields::{Fields, Values};
@@ -32,7 +32,7 @@ pub struct Head {
 impl Model for Head {
     ghost use Rattle.std.specs.Prelude.{map, All, vec_len, IsUtf8};
     ghost use Rattle.httparse.specs.Spans.{span_bytes, header_bytes, IsWithin, IsHeaderWithin};
-    ghost use Rattle.http_wire.specs.Requests.{RequestParts};
+    ghost use Rattle.http_wire.specs.Requests.{RequestParts, Says};
 
     ghost Value = { RequestParts };
 
@@ -44,14 +44,13 @@ impl Model for Head {
     } };
 
     ghost invariant = { λ h. IsWithin (vec_len h.text) h.target × IsUtf8 (span_bytes h.text.items h.target)
-        × All (IsHeaderWithin (vec_len h.text)) h.fields.items };
-}
-
-// Whether a target begins with a slash.
-fn is_path(target: &[u8]) -> bool
-    ensures { IsTrue result ↔ (slice_get target.now 0 ≡ Some 47) }
-{
-    target.first().copied() == Some(b'/')
+        × All (IsHeaderWithin (vec_len h.text)) h.fields.items
+        × Says h.text.items (record {
+          method = h.method;
+          target = span_bytes h.text.items h.target;
+          minor = h.minor;
+          fields = map (header_bytes h.text.items) h.fields.items;
+        }) };
 }
 
 // Finds the spans of the head's parts, if the head is served.
@@ -74,7 +73,8 @@ fn find_parts(text: &[u8], room: &mut [HeaderSpan]) -> Result<RequestSpans, Head
             });
         }
     };
-    if is_path(spans.path.of(text)) {
+    // A target begins with a slash.
+    if spans.path.of(text).first().copied() == Some(b'/') {
         Ok(spans)
     } else {
         Err(HeadFault::BadHead)
@@ -115,6 +115,13 @@ impl Head {
             minor: spans.version,
             fields,
         }))
+    }
+
+    /// Returns its text, as it came, the empty lines before it included.
+    pub fn text(&self) -> &[u8]
+        ensures { Says result.now self.now }
+    {
+        self.text.as_slice()
     }
 
     /// Returns the method.

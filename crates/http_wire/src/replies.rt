@@ -135,7 +135,7 @@ fn put_both<D: Duplex, P: BodyParts<Item: Drop> + Drop>(
 {
     put_head(duplex, out, head, body.size())?;
     put_body(duplex, out, body)?;
-    out.flush(duplex)
+    out.write(duplex, &[], &[], &[])
 }
 
 // Writes the head and then the body.

@@ -1,9 +1,9 @@
 //! Gathers texts and writes them.
-ghost use Rattle.std.specs.Prelude.{◌≡◌, ◌≤◌, ◌↔◌, ℕ, IsTrue, ◌-◌, [], ◌++◌, drop, length, IfOk, IsErrOf, MatchBool, OnOk};
+ghost use Rattle.std.specs.Prelude.{◌≡◌, ◌≤◌, ◌↔◌, ℕ, IsTrue, ◌-◌, List, [], ◌++◌, drop, length, IfOk, IsErrOf, MatchBool, OnOk};
 ghost use Rattle.std.specs.List.{flat_map};
-ghost use Rattle.http_wire.specs.Gathering.{from_front, IsCounted, nothing, Puts, WritesOn};
+ghost use Rattle.http_wire.specs.Gathering.{from_front, IsCounted, nothing, Puts, SendsOn, WritesOn};
 ghost use Rattle.byte_slices.specs.Slices.{joined};
-ghost use Rattle.http_wire.specs.Timing.{NoRead, Ran};
+ghost use Rattle.http_wire.specs.Timing.{Event, NoRead, Ran, Steps};
 
 use crate::duplexes::Duplex;
 use crate::halts::Halt;
@@ -106,17 +106,6 @@ impl Outgoing {
         self.sent
     }
 
-    // Writes all gathered bytes.
-    pub(crate) fn flush<D: Duplex>(&mut self, duplex: &mut D) -> Result<(), Halt<WriteFailed>>
-        ensures ran { Ran D.saw NoRead duplex.old duplex.new
-            (WritesOn result [] self.old.sent self.new.sent self.old.rest self.new.rest) }
-        ensures empty { OnOk result (self.new.rest ≡ []) }
-        ensures passed { self.new.passed ≡ self.old.passed }
-        ensures waits { IsErrOf result Halt.WouldWait → D.waits duplex.new }
-    {
-        self.write(duplex, &[], &[], &[])
-    }
-
     // Gathers one more piece if there is room for it, and returns whether it did.
     fn gather(&mut self, piece: &[u8]) -> bool
         ensures gathered { MatchBool result (self.new.rest ≡ self.old.rest ++ piece.now)
@@ -144,7 +133,7 @@ impl Outgoing {
     }
 
     // Writes the gathered bytes and then these pieces.
-    fn write<D: Duplex>(
+    pub(crate) fn write<D: Duplex>(
         &mut self,
         duplex: &mut D,
         first: &[u8],
@@ -217,7 +206,7 @@ impl Outgoing {
         if fourth.is_empty() {
             return self.put_three(duplex, first, second, third);
         }
-        self.flush(duplex)?;
+        self.write(duplex, &[], &[], &[])?;
         let first = self.behind(first);
         let second = self.behind(second);
         let third = self.behind(third);
@@ -229,6 +218,22 @@ impl Outgoing {
             fourth,
         };
         send_slices(duplex, &mut self.sent, &mut slices)
+    }
+
+    /// Goes on with a text after the bytes of it that were written. If nothing is gathered of it, none of it is copied.
+    pub fn try_send<D: Duplex>(
+        &mut self,
+        duplex: &mut D,
+        text: &[u8],
+    ) -> Result<(), Halt<WriteFailed>>
+        requires { IsCounted self.old }
+        ensures ran { SendsOn D.saw duplex.old duplex.new result text.now self.old self.new }
+        ensures led { (events : List Event) × Steps D.saw duplex.old events duplex.new }
+        ensures waits { IsErrOf result Halt.WouldWait → D.waits duplex.new }
+    {
+        self.go_on();
+        let left = self.behind(text);
+        self.write(duplex, left, &[], &[])
     }
 
     // Puts one more piece.

@@ -1,5 +1,5 @@
 //! Reads requests from a stream: heads and bodies, one after another.
-ghost use Rattle.std.specs.Prelude.{◌≡◌, ◌≢◌, ◌<◌, List, [], ◌++◌, ℕ, ◌≤◌, length, vec_len, IfOk, IfErr, IfSome, IsErrOf};
+ghost use Rattle.std.specs.Prelude.{◌≡◌, ◌≢◌, ◌<◌, List, [], ◌++◌, ℕ, ◌≤◌, drop, length, vec_len, IfOk, IfErr, IfSome, IsErrOf};
 ghost use Rattle.std.specs.Io.KnownBytes.{Consumes, Keeps, IsAtEnd, prepend_known};
 ghost use Rattle.http_wire.specs.Halting.{TriesBody, TriesHead, TriesToFind};
 ghost use Rattle.http_wire.specs.HeadText.{CutShort};
@@ -56,11 +56,31 @@ impl Wire {
         })
     }
 
-    /// Returns the number of bytes that were read and not yet taken.
-    pub fn buffered(&self) -> usize
-        ensures { result ≡ length self.now }
+    /// Returns the bytes that were read and not yet taken.
+    pub fn bytes(&self) -> &[u8]
+        ensures value { result.now ≡ self.now }
+        ensures fits { length self.now ≤ HEAD_LIMIT }
     {
-        self.buffer.as_slice().len()
+        self.buffer.as_slice()
+    }
+
+    /// Reads until a whole head has come, and takes none of it. Returns its length, the empty lines before it included. If there is none, it says why as
+    /// `try_read_head` does, and keeps the bytes that came. What is read after it goes on where this call left off.
+    pub fn try_find_head<D: Duplex>(&mut self, duplex: &mut D) -> Result<usize, Halt<HeadFault>>
+        ensures ran { Ran D.saw (AwaitsHead self.old) duplex.old duplex.new (TriesToFind result self.old self.new) }
+        ensures waits { IsErrOf result Halt.WouldWait → D.waits duplex.new }
+        ensures short { IsErrOf result Halt.WouldWait → CutShort self.new }
+    {
+        find_head(&mut self.buffer, duplex, &mut self.search)
+    }
+
+    /// Takes this many bytes from the front of those that came, as they are.
+    pub fn skip(&mut self, count: usize)
+        requires { count ≤ length self.old }
+        ensures { self.new ≡ drop count self.old }
+    {
+        self.buffer.consume(count);
+        self.search = Search::new();
     }
 
     /// Reads the next head as `read_head` does, from a stream that may have to wait. If the stream has to wait before a whole head has
@@ -70,7 +90,17 @@ impl Wire {
         ensures waits { IsErrOf result Halt.WouldWait → D.waits duplex.new }
         ensures short { IsErrOf result Halt.WouldWait → CutShort self.new }
     {
-        try_take_head(&mut self.buffer, duplex, &mut self.search, &mut self.room)
+        let count = self.try_find_head(duplex)?;
+        let parsed = Head::parse(
+            self.buffer.allocator(),
+            &self.buffer.as_slice()[..count],
+            &mut self.room,
+        )?;
+        self.skip(count);
+        match parsed {
+            Ok(head) => Ok(head),
+            Err(fault) => Err(Halt::Failed(fault)),
+        }
     }
 
     /// Goes on reading a body of `size` bytes as `read_body` does, from a stream that may have to wait. `body` holds the part that was read
@@ -117,7 +147,7 @@ impl Wire {
             IfErr result (λ e. e ≢ HeadFault.BadHead → e ≢ HeadFault.HeadTooLarge → Keeps old new) }
         ensures ran { Ran D.saw (AwaitsHead self.old) duplex.old duplex.new (ReadsHead result self.old self.new) }
     {
-        take_head(&mut self.buffer, duplex, &mut self.search, &mut self.room)
+        take_head(self, duplex)
     }
 
     /// Reads a body of `count` bytes. Reads from the stream only if fewer bytes came before, and writes nothing. Allocates memory as the
@@ -143,46 +173,14 @@ impl Wire {
     }
 }
 
-// Takes the next head from the buffer and then from a stream that never has to wait.
-fn take_head<D: Steady>(
-    buffer: &mut Buffer,
-    duplex: &mut D,
-    search: &mut Search,
-    room: &mut [HeaderSpan],
-) -> Result<Head, HeadFault>
-    requires searched { HasSearched buffer.old search.old.state search.old.scanned }
-    requires size { length room.old ≡ FIELD_LIMIT }
-    ensures ran { Ran D.saw (AwaitsHead buffer.old) duplex.old duplex.new (ReadsHead result buffer.old buffer.new) }
-    ensures searched { HasSearched buffer.new search.new.state search.new.scanned }
+// Takes the next head from a stream that never has to wait.
+fn take_head<D: Steady>(wire: &mut Wire, duplex: &mut D) -> Result<Head, HeadFault>
+    ensures ran { Ran D.saw (AwaitsHead wire.old) duplex.old duplex.new (ReadsHead result wire.old wire.new) }
 {
-    match try_take_head(buffer, duplex, search, room) {
+    match wire.try_read_head(duplex) {
         Ok(head) => Ok(head),
         Err(Halt::Failed(fault)) => Err(fault),
         Err(Halt::WouldWait) => unreachable!(),
-    }
-}
-
-// Takes the next head from the buffer and then from the stream.
-fn try_take_head<D: Duplex>(
-    buffer: &mut Buffer,
-    duplex: &mut D,
-    search: &mut Search,
-    room: &mut [HeaderSpan],
-) -> Result<Head, Halt<HeadFault>>
-    requires searched { HasSearched buffer.old search.old.state search.old.scanned }
-    requires size { length room.old ≡ FIELD_LIMIT }
-    ensures ran { Ran D.saw (AwaitsHead buffer.old) duplex.old duplex.new (TriesHead result buffer.old buffer.new) }
-    ensures waits { IsErrOf result Halt.WouldWait → D.waits duplex.new }
-    ensures short { IsErrOf result Halt.WouldWait → CutShort buffer.new }
-    ensures searched { HasSearched buffer.new search.new.state search.new.scanned }
-{
-    let count = find_head(buffer, duplex, search)?;
-    let parsed = Head::parse(buffer.allocator(), &buffer.as_slice()[..count], room)?;
-    buffer.consume(count);
-    *search = Search::new();
-    match parsed {
-        Ok(head) => Ok(head),
-        Err(fault) => Err(Halt::Failed(fault)),
     }
 }
 

@@ -100,7 +100,7 @@ impl PeerConnection {
         ensures { result ≡ stage_of self.now }
     {
         match &self.phase {
-            PeerPhase::Head => head_stage(self.wire.buffered()),
+            PeerPhase::Head => head_stage(self.wire.bytes().len()),
             PeerPhase::Answer(_) => PeerStage::Answer,
             PeerPhase::Ended(_) => PeerStage::Ended,
         }

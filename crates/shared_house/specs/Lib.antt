@@ -5,6 +5,7 @@ pub mod Entering
 pub mod Desks
 pub mod Shared
 pub mod Guests
+pub mod Kept
 pub mod Running
 -- ---- what the house's calls do, and the laws of that
 pub mod Houses

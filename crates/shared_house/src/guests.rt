@@ -12,18 +12,21 @@ ghost use Rattle.shared_house.specs.Seeing.{HasAll, Known};
 use crate::answered::Answered;
 use crate::desk_access::DeskAccess;
 use crate::file_access::FileAccess;
+use crate::guest_answers::{answer_guest, recall_guest};
 use crate::haste::Haste;
 use crate::houses::{DeskVisitor, SharedHouse};
+use crate::kept::Kept;
+use crate::memories::Memory;
 use crate::notes::Note;
-use host_answers::answer;
 use host_connection::{Connection, Metered, Progress, Request, Service};
-use host_replies::Reply;
-use http_wire::{Duplex, Head};
+use host_replies::{Reply, is_head_only};
+use http_wire::Duplex;
 use seen_lists::ListName;
 use site_desk::{DeskName, KnownFiles};
 use std::alloc::Global;
 use std::marker::Model;
 use std::mem;
+use std::sync::Arc;
 
 /// A worker's house, and the note of the connection that it answers. Contracts see the note alone, so the worker is no part of what they say.
 ///
@@ -34,6 +37,8 @@ pub struct Guest<J: DeskName, K: ListName<KnownFiles>, D, G, H> {
     house: SharedHouse<J, K, D, G>,
     note: Note<J, K>,
     haste: H,
+    // The replies that it keeps, if it keeps any.
+    memory: Option<Memory<J>>,
     // The request that the last step answered, if it answered one.
     answered: Option<Answered>,
     // What was seen for a request that the last step left, if it left one.
@@ -66,23 +71,6 @@ fn may_need_desk(request: &Request) -> bool {
     !is_read || !is_list || !request.body.is_empty()
 }
 
-/// The reply to a request of a connection with this note: the house learns the note before, and the note is what the house knows then.
-fn answer_guest<J: DeskName, K: ListName<KnownFiles>, D: DeskAccess<J, K>, G: FileAccess>(
-    alloc: Global,
-    house: &mut SharedHouse<J, K, D, G>,
-    note: &mut Note<J, K>,
-    head: &Head,
-    body: &[u8],
-) -> Reply
-    ensures replied { IsGuestAnswer (shows D.did G.fails) note.old head.now body.now (answer_of result) note.new }
-    ensures grows { HasAll note.old note.new }
-{
-    house.learn_note(note);
-    let reply = answer(alloc, house, head, body);
-    *note = house.note();
-    reply
-}
-
 impl<J: DeskName, K: ListName<KnownFiles>, D: DeskAccess<J, K>, G: FileAccess, H: Haste> Service
     for Guest<J, K, D, G, H> {
     ghost answers = { IsGuestAnswer (shows D.did G.fails) };
@@ -109,7 +97,24 @@ impl<J: DeskName, K: ListName<KnownFiles>, D: DeskAccess<J, K>, G: FileAccess, H
         }
         self.answered = Some(Answered::of(&request.head));
         self.note = note;
+        self.keep(alloc, request, &reply);
         Some(reply)
+    }
+
+    fn recall(&mut self, head: &[u8]) -> Option<Arc<Vec<u8>>> {
+        let Some(memory) = &self.memory else {
+            return None;
+        };
+        let Some(kept) = memory.at(head) else {
+            return None;
+        };
+        match recall_guest(&mut self.house, kept, &mut self.note) {
+            Some(text) => {
+                self.answered = Some(Answered { asks_end: false });
+                Some(text)
+            }
+            None => None,
+        }
     }
 
     ghost withheld = { laws.withheld (shows D.did G.fails) };
@@ -126,8 +131,12 @@ impl<J: DeskName, K: ListName<KnownFiles>, D: DeskAccess<J, K>, G: FileAccess, H
     G,
     H,
 > {
-    /// A worker at no connection.
-    pub fn new(house: SharedHouse<J, K, D, G>, haste: H) -> Guest<J, K, D, G, H>
+    /// A worker at no connection, which may keep replies.
+    pub fn new(
+        house: SharedHouse<J, K, D, G>,
+        haste: H,
+        memory: Option<Memory<J>>,
+    ) -> Guest<J, K, D, G, H>
         ensures { result ≡ house.known }
     {
         let note = house.note();
@@ -135,6 +144,7 @@ impl<J: DeskName, K: ListName<KnownFiles>, D: DeskAccess<J, K>, G: FileAccess, H
             house,
             note,
             haste,
+            memory,
             answered: None,
             sight: None,
         }
@@ -145,6 +155,43 @@ impl<J: DeskName, K: ListName<KnownFiles>, D: DeskAccess<J, K>, G: FileAccess, H
         ensures { self.new ≡ self.old }
     {
         self.sight.take()
+    }
+
+    /// Keeps the reply to a request, which it just answered, if it keeps such replies.
+    fn keep(&mut self, alloc: Global, request: &Request, reply: &Reply)
+        requires { (old : Known) × IsGuestAnswer (shows D.did G.fails) old
+            request.now.head request.now.body.items (answer_of reply.now) self.old }
+        ensures { self.new ≡ self.old }
+    {
+        let Some(memory) = &mut self.memory else {
+            return;
+        };
+        if !memory.wants(request.head.text()) {
+            return;
+        }
+        let Some(kept) = self.kept_of(alloc, request, reply) else {
+            return;
+        };
+        if let Some(memory) = &mut self.memory {
+            memory.keep(kept);
+        }
+    }
+
+    /// What is kept of the reply to a request, over the log that is known after it: its text, if that is small, answers with a whole file, and would be the same
+    /// for each request with this head. There may be no memory for it.
+    fn kept_of(&self, alloc: Global, request: &Request, reply: &Reply) -> Option<Kept<J>>
+        requires { (old : Known) × IsGuestAnswer (shows D.did G.fails) old
+            request.now.head request.now.body.items (answer_of reply.now) self.now }
+    {
+        if !reply.is_of_whole_file() || !request.is_whole_by_head() {
+            return None;
+        }
+        let text = reply.small_text(alloc, is_head_only(&request.head))?;
+        let front = self.note.log.again();
+        match Kept::new(alloc, front, request.head.text(), text) {
+            Ok(kept) => Some(kept),
+            Err(_) => None,
+        }
     }
 
     /// Looks for a request that is left for later. Answers whether there is something to lend: else the request is answered at once.

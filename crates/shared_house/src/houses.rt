@@ -84,6 +84,13 @@ impl<J: DeskName, K: ListName<KnownFiles>, D, G> SharedHouse<J, K, D, G> {
         }
     }
 
+    /// The front of the log that it knows.
+    pub(crate) fn front(&self) -> LogFront<J>
+        ensures { result ≡ self.now.known.log }
+    {
+        self.visitor.front()
+    }
+
     /// Learns what a note has.
     pub(crate) fn learn_note(&mut self, note: &Note<J, K>)
         ensures kept { HasAll self.old.known self.new.known }

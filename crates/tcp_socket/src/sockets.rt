@@ -130,14 +130,14 @@ impl<'a> Socket<'a> {
     }
 }
 
-/// Writes some bytes of slices to a stream, one slice after another, in one call of the system. If only the first has bytes, that is a cheaper call.
+/// Writes some bytes of slices to a stream, one slice after another, in one call of the system. If only one has bytes, that is a cheaper call.
 pub fn write_to(stream: &TcpStream, slices: &Slices<'_>) -> io::Result<usize>
     ensures { WritesAtMost result (joined slices.now) }
 {
-    let more = [slices.second, slices.third, slices.fourth];
-    if more.iter().all(|slice| slice.is_empty()) {
+    let all = [slices.first, slices.second, slices.third, slices.fourth];
+    if all.iter().filter(|slice| !slice.is_empty()).count() < 2 {
         let mut stream = stream;
-        return stream.write(slices.first);
+        return stream.write(slices.front());
     }
     stream.write_vectored(&[
         IoSlice::new(slices.first),

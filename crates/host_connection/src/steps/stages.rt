@@ -40,7 +40,7 @@ impl Connection {
         ensures { result ≡ stage_of self.now }
     {
         match &self.phase {
-            Phase::Head => head_stage(self.wire.buffered()),
+            Phase::Head => head_stage(self.wire.bytes().len()),
             Phase::Invite(invitation) => Stage::Interim {
                 sent: invitation.at,
                 size: invitation.size,
@@ -69,7 +69,7 @@ impl Connection {
         ensures { result ≡ held_by self.now.phase }
     {
         match &self.phase {
-            Phase::Reply(sending) => sending.reply.held_file(),
+            Phase::Reply(sending) => sending.wording.held_file(),
             _ => None,
         }
     }

@@ -12,15 +12,16 @@ use crate::phases::{BodyPart, Invitation, Phase, Sending};
 use crate::requests::Request;
 use crate::services::Service;
 use crate::stops::{Stop, announced};
+use crate::wordings::Wording;
 use host_replies::{Reply, is_head_only};
 use http_wire::{Duplex, Halt, Head, Outgoing, WriteFailed, try_write_interim};
 use std::alloc::Global;
 
 /// How many requests a connection answers.
-const MOST_REQUESTS: u64 = 100;
+pub(super) const MOST_REQUESTS: u64 = 100;
 
 /// What follows where no request was read.
-fn after_stop(why: Stop) -> Phase
+pub(super) fn after_stop(why: Stop) -> Phase
     ensures { FollowsStop why result }
 {
     match why {
@@ -28,12 +29,12 @@ fn after_stop(why: Stop) -> Phase
         Stop::ReadFault => Phase::Ended(Err(ConnectionFault::InputFault)),
         Stop::WriteFault => Phase::Ended(Err(ConnectionFault::OutputFault)),
         Stop::Refused { why, head_only } => Phase::Reply(Sending {
-            reply: Reply::refusing(why),
+            wording: Wording::Made(Reply::refusing(why)),
             close: true,
             head_only,
         }),
         Stop::OutOfMemory { head_only } => Phase::Reply(Sending {
-            reply: Reply::out_of_memory(),
+            wording: Wording::Made(Reply::out_of_memory()),
             close: true,
             head_only,
         }),
@@ -79,7 +80,10 @@ impl Sending {
         ensures led { (events : List Event) × Steps D.saw duplex.old events duplex.new }
         ensures waits { IsErrOf result Halt.WouldWait → D.waits duplex.new }
     {
-        self.reply.try_send(duplex, out, self.close, self.head_only)
+        match &self.wording {
+            Wording::Made(reply) => reply.try_send(duplex, out, self.close, self.head_only),
+            Wording::Kept(text) => out.try_send(duplex, text.as_slice()),
+        }
     }
 }
 
@@ -220,7 +224,7 @@ impl Connection {
         // As `enter` does, without moving the reply on the way.
         self.out.begin();
         self.phase = Phase::Reply(Sending {
-            reply,
+            wording: Wording::Made(reply),
             close,
             head_only,
         });

@@ -3,5 +3,5 @@ use Rattle.http_wire.proofs.gets.put_all.Goals as goal
 
 pub returns-clause-ran : goal.returns-clause-ran
 returns-clause-ran g c =
-    puts_flushed g.D.Duplex.saw c.args.duplex.now c.put_pieces.new.duplex c.flush.new.duplex c.flush.result _ c.args.out.now c.put_pieces.new.out c.flush.new.self
-    c.in_ok-put_pieces.ensures.ran c.flush.ensures.passed c.flush.ensures.ran
+    puts_flushed g.D.Duplex.saw c.args.duplex.now c.put_pieces.new.duplex c.write.new.duplex c.write.result _ c.args.out.now c.put_pieces.new.out c.write.new.self
+    c.in_ok-put_pieces.ensures.ran c.write.ensures.passed c.write.ensures.ran

@@ -39,6 +39,6 @@ returns-clause-ran g c =
     let between = c.put_head.new.out in
     let after = c.put_body.new.out in
     let Q : ℕ → Type 0 = λ n. Ran saw NoRead c.args.duplex.now c.put_head.new.duplex (Puts (Ok tt) (head_text (fields_of c.args.head.now n)) out between) in
-    puts_flushed saw c.args.duplex.now c.put_body.new.duplex c.flush.new.duplex c.flush.result _ out after c.flush.new.self
+    puts_flushed saw c.args.duplex.now c.put_body.new.duplex c.write.new.duplex c.write.result _ out after c.write.new.self
     (puts_then saw c.args.duplex.now c.put_head.new.duplex c.put_body.new.duplex (Ok tt) _ _ out between after (subst Q c.size.ensures c.in_ok-put_head.ensures.ran) c.in_ok-put_body.ensures.ran)
-    c.flush.ensures.passed c.flush.ensures.ran
+    c.write.ensures.passed c.write.ensures.ran

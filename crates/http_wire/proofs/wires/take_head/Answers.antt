@@ -6,8 +6,8 @@ use Rattle.http_wire.specs.Timing.{Ran}
 use Rattle.http_wire.specs.Wires.{AwaitsHead}
 use Rattle.http_wire.proofs.wires.take_head.Goals as goal
 
-pub returns-in-Err-Failed-clause-ran : goal.returns-in-Err-Failed-clause-ran
-returns-in-Err-Failed-clause-ran g c =
-    let P : Halt HeadFault → Type 0 = λ why. Ran g.D.Duplex.saw (AwaitsHead c.args.buffer.now) c.args.duplex.now c.try_take_head.new.duplex
-    (TriesHead (Err why) c.args.buffer.now c.try_take_head.new.buffer) in
-    subst P c.in-Err-Failed.field-0-is c.in-Err-Failed.ensures.ran
+pub returns-in-Err-Failed : goal.returns-in-Err-Failed
+returns-in-Err-Failed g c =
+    let P : Halt HeadFault → Type 0 = λ why. Ran g.D.Duplex.saw (AwaitsHead c.args.wire.now) c.args.duplex.now c.try_read_head.new.duplex
+    (TriesHead (Err why) c.args.wire.now c.try_read_head.new.self) in
+    record { ran = subst P c.in-Err-Failed.field-0-is c.in-Err-Failed.ensures.ran }

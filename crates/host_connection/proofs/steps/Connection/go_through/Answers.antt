@@ -1,47 +1,36 @@
-use Rattle.std.proofs.Common.{◌+◌, ◌++◌, ◌∙◌, [], inl, inr, refl}
+use Rattle.std.proofs.Common.{◌++◌, ◌∙◌, subst}
 use Rattle.http_wire.proofs.Trails.{steps_joined}
-use Rattle.host_connection.specs.declared.steps.Progress.TheVariants as progress
-use Rattle.host_connection.proofs.Advancing.{advanced_on}
-use Rattle.host_connection.proofs.Asking.{asked_in_all, asked_on, not_asked}
+use Rattle.host_connection.proofs.Again.{advanced_as}
+use Rattle.host_connection.specs.Carrying.{AnswersOnce}
 use Rattle.host_connection.proofs.steps.Connection.go_through.Goals as goal
 
-pub phases-init : goal.phases-init
-phases-init g c = record {
-  so = λ start first so. so;
-  led = ([], refl);
-  advanced = inl (refl, refl, refl);
-  asked = inl refl;
-  grown = g.met.S.Service.stays c.args.service.now;
+pub returns-in-Some : goal.returns-in-Some
+returns-in-Some g c = record {
+  leads = λ start first so. c.in-Some.ensures.leads start first so;
+  led = c.in-Some.ensures.led;
+  advances = c.in-Some.ensures.advances;
+  asks = c.in-Some.ensures.asks;
+  later = λ is. absurd (c.in-Some.ensures.at_once is);
+  grows = c.in-Some.ensures.grows;
 }
 
-pub returns-in_default : goal.returns-in_default
-returns-in_default g c = record {
-  leads = λ start first so. c.pass.ensures.leads start first (c.phases.invariant.so start first so);
-  led = (
-    c.pass.ensures.led.0 ++ c.phases.invariant.led.0,
-    steps_joined g.D.Duplex.saw c.args.duplex.now c.phases.duplex c.pass.new.duplex c.pass.ensures.led.0 c.phases.invariant.led.0 c.phases.invariant.led.1 c.pass.ensures.led.1,
-  );
-  advances = advanced_on c.pass.result c.phases.counter c.args.self.now.number c.phases.self.number c.pass.new.self.number c.args.self.now.phase c.phases.self.phase c.pass.new.self.phase
-      c.phases.invariant.advanced c.pass.ensures.advances;
-  asks = asked_in_all g.S.Service.answers c.args.service.now c.pass.new.service (c.phases.counter + 1) c.pass.new.self.phase
-      (asked_on g.S.Service.answers c.args.service.now c.phases.service c.pass.new.service c.phases.counter c.phases.self.phase c.pass.new.self.phase c.phases.invariant.asked c.phases-test.true c.pass.ensures.asks);
-  later = λ is. (
-      let by = c.pass.ensures.later is in
-      (by.0, by.1 ∙ not_asked g.S.Service.answers c.args.service.now c.phases.service c.phases.counter c.phases.self.phase c.phases.invariant.asked c.phases-test.true by.2)
+pub returns-in-None : goal.returns-in-None
+returns-in-None g c =
+    let mid = c.recall.new.service in
+    let same = c.in-None.ensures.none in
+    record {
+      leads = λ start first so. c.go_through_phases.ensures.leads start first (c.in-None.ensures.leads start first so);
+      led = (
+        c.go_through_phases.ensures.led.0 ++ c.in-None.ensures.led.0,
+        steps_joined g.D.Duplex.saw c.args.duplex.now c.recall.new.duplex c.go_through_phases.new.duplex c.go_through_phases.ensures.led.0 c.in-None.ensures.led.0 c.in-None.ensures.led.1
+            c.go_through_phases.ensures.led.1,
       );
-  grows = g.met.S.Service.goes_on c.args.service.now c.phases.service c.pass.new.service c.phases.invariant.grown c.pass.ensures.grows;
-}
-
-pub phases-preserved : goal.phases-preserved
-phases-preserved g c = record {
-  so = λ start first so. c.in-More.ensures.leads start first (c.phases.invariant.so start first so);
-  led = (
-    c.in-More.ensures.led.0 ++ c.phases.invariant.led.0,
-    steps_joined g.D.Duplex.saw c.args.duplex.now c.phases.duplex c.pass.new.duplex c.in-More.ensures.led.0 c.phases.invariant.led.0 c.phases.invariant.led.1 c.in-More.ensures.led.1,
-  );
-  advanced = inr (advanced_on progress.More c.phases.counter c.args.self.now.number c.phases.self.number c.pass.new.self.number c.args.self.now.phase c.phases.self.phase c.pass.new.self.phase
-      c.phases.invariant.advanced c.in-More.ensures.advances);
-  asked = asked_on g.S.Service.answers c.args.service.now c.phases.service c.pass.new.service c.phases.counter c.phases.self.phase c.pass.new.self.phase c.phases.invariant.asked c.phases-test.true
-      c.in-More.ensures.asks;
-  grown = g.met.S.Service.goes_on c.args.service.now c.phases.service c.pass.new.service c.phases.invariant.grown c.in-More.ensures.grows;
-}
+      advances = advanced_as c.go_through_phases.result c.args.self.now.number c.recall.new.self.number c.go_through_phases.new.self.number c.args.self.now.phase c.recall.new.self.phase
+          c.go_through_phases.new.self.phase c.in-None.ensures.advances c.go_through_phases.ensures.advances;
+      asks = subst (λ h. AnswersOnce g.S.Service.answers h c.go_through_phases.new.service) same c.go_through_phases.ensures.asks;
+      later = λ is. (
+          let by = c.go_through_phases.ensures.later is in
+          (by.0, by.1 ∙ same)
+          );
+      grows = subst (λ h. g.S.Service.grows h c.go_through_phases.new.service) same c.go_through_phases.ensures.grows;
+    }

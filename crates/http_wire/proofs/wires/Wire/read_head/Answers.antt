@@ -1,6 +1,5 @@
-use Rattle.std.proofs.Common.{List, ℕ, Option, subst}
+use Rattle.std.proofs.Common.{List, ℕ, Option}
 use Rattle.std.specs.Io.KnownBytes.{prepend_known}
-use Rattle.http_wire.specs.Wires.{HeadIsOf}
 use Rattle.http_wire.proofs.StreamReads.{head_ok, head_bad, head_large, head_ended, head_failed, head_memory, head_kept}
 use Rattle.http_wire.proofs.Trails.{all_told}
 use Rattle.http_wire.proofs.wires.Wire.read_head.Goals as goal
@@ -11,10 +10,9 @@ returns-clause-ok g c =
     let ran = c.take_head.ensures.ran in
     let told = all_told d.saw d.left d.held d.read_fails d.write_fails g.met.D.Duplex.told c.args.duplex.now c.take_head.new.duplex ran.events ran.steps in
     let left = d.left c.args.duplex.now in
-    let new : Option (List ℕ) = prepend_known c.take_head.new.buffer (d.left c.take_head.new.duplex) in
+    let new : Option (List ℕ) = prepend_known c.take_head.new.wire (d.left c.take_head.new.duplex) in
     let old : Option (List ℕ) = prepend_known c.args.self.now left in
-    head_ok c.take_head.result old new (subst (λ (b : List ℕ). HeadIsOf c.take_head.result (prepend_known b left) new) c.self.view_is
-    (ran.claimed.of_stream left (d.left c.take_head.new.duplex) told.gives))
+    head_ok c.take_head.result old new (ran.claimed.of_stream left (d.left c.take_head.new.duplex) told.gives)
 
 pub returns-clause-bad : goal.returns-clause-bad
 returns-clause-bad g c =
@@ -22,10 +20,9 @@ returns-clause-bad g c =
     let ran = c.take_head.ensures.ran in
     let told = all_told d.saw d.left d.held d.read_fails d.write_fails g.met.D.Duplex.told c.args.duplex.now c.take_head.new.duplex ran.events ran.steps in
     let left = d.left c.args.duplex.now in
-    let new : Option (List ℕ) = prepend_known c.take_head.new.buffer (d.left c.take_head.new.duplex) in
+    let new : Option (List ℕ) = prepend_known c.take_head.new.wire (d.left c.take_head.new.duplex) in
     let old : Option (List ℕ) = prepend_known c.args.self.now left in
-    head_bad c.take_head.result old new (subst (λ (b : List ℕ). HeadIsOf c.take_head.result (prepend_known b left) new) c.self.view_is
-    (ran.claimed.of_stream left (d.left c.take_head.new.duplex) told.gives))
+    head_bad c.take_head.result old new (ran.claimed.of_stream left (d.left c.take_head.new.duplex) told.gives)
 
 pub returns-clause-large : goal.returns-clause-large
 returns-clause-large g c =
@@ -33,10 +30,9 @@ returns-clause-large g c =
     let ran = c.take_head.ensures.ran in
     let told = all_told d.saw d.left d.held d.read_fails d.write_fails g.met.D.Duplex.told c.args.duplex.now c.take_head.new.duplex ran.events ran.steps in
     let left = d.left c.args.duplex.now in
-    let new : Option (List ℕ) = prepend_known c.take_head.new.buffer (d.left c.take_head.new.duplex) in
+    let new : Option (List ℕ) = prepend_known c.take_head.new.wire (d.left c.take_head.new.duplex) in
     let old : Option (List ℕ) = prepend_known c.args.self.now left in
-    head_large c.take_head.result old new (subst (λ (b : List ℕ). HeadIsOf c.take_head.result (prepend_known b left) new) c.self.view_is
-    (ran.claimed.of_stream left (d.left c.take_head.new.duplex) told.gives))
+    head_large c.take_head.result old new (ran.claimed.of_stream left (d.left c.take_head.new.duplex) told.gives)
 
 pub returns-clause-ended : goal.returns-clause-ended
 returns-clause-ended g c =
@@ -44,10 +40,9 @@ returns-clause-ended g c =
     let ran = c.take_head.ensures.ran in
     let told = all_told d.saw d.left d.held d.read_fails d.write_fails g.met.D.Duplex.told c.args.duplex.now c.take_head.new.duplex ran.events ran.steps in
     let left = d.left c.args.duplex.now in
-    let new : Option (List ℕ) = prepend_known c.take_head.new.buffer (d.left c.take_head.new.duplex) in
+    let new : Option (List ℕ) = prepend_known c.take_head.new.wire (d.left c.take_head.new.duplex) in
     let old : Option (List ℕ) = prepend_known c.args.self.now left in
-    head_ended c.take_head.result old new (subst (λ (b : List ℕ). HeadIsOf c.take_head.result (prepend_known b left) new) c.self.view_is
-    (ran.claimed.of_stream left (d.left c.take_head.new.duplex) told.gives))
+    head_ended c.take_head.result old new (ran.claimed.of_stream left (d.left c.take_head.new.duplex) told.gives)
 
 pub returns-clause-failed : goal.returns-clause-failed
 returns-clause-failed g c =
@@ -62,10 +57,9 @@ returns-clause-memory g c =
     let ran = c.take_head.ensures.ran in
     let told = all_told d.saw d.left d.held d.read_fails d.write_fails g.met.D.Duplex.told c.args.duplex.now c.take_head.new.duplex ran.events ran.steps in
     let left = d.left c.args.duplex.now in
-    let new : Option (List ℕ) = prepend_known c.take_head.new.buffer (d.left c.take_head.new.duplex) in
+    let new : Option (List ℕ) = prepend_known c.take_head.new.wire (d.left c.take_head.new.duplex) in
     let old : Option (List ℕ) = prepend_known c.args.self.now left in
-    head_memory c.take_head.result old new (subst (λ (b : List ℕ). HeadIsOf c.take_head.result (prepend_known b left) new) c.self.view_is
-    (ran.claimed.of_stream left (d.left c.take_head.new.duplex) told.gives))
+    head_memory c.take_head.result old new (ran.claimed.of_stream left (d.left c.take_head.new.duplex) told.gives)
 
 pub returns-clause-kept : goal.returns-clause-kept
 returns-clause-kept g c =
@@ -73,7 +67,6 @@ returns-clause-kept g c =
     let ran = c.take_head.ensures.ran in
     let told = all_told d.saw d.left d.held d.read_fails d.write_fails g.met.D.Duplex.told c.args.duplex.now c.take_head.new.duplex ran.events ran.steps in
     let left = d.left c.args.duplex.now in
-    let new : Option (List ℕ) = prepend_known c.take_head.new.buffer (d.left c.take_head.new.duplex) in
+    let new : Option (List ℕ) = prepend_known c.take_head.new.wire (d.left c.take_head.new.duplex) in
     let old : Option (List ℕ) = prepend_known c.args.self.now left in
-    head_kept c.take_head.result old new (subst (λ (b : List ℕ). HeadIsOf c.take_head.result (prepend_known b left) new) c.self.view_is
-    (ran.claimed.of_stream left (d.left c.take_head.new.duplex) told.gives))
+    head_kept c.take_head.result old new (ran.claimed.of_stream left (d.left c.take_head.new.duplex) told.gives)

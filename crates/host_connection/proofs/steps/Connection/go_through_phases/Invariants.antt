@@ -2,7 +2,7 @@ use Rattle.std.specs.Prelude.{List}
 use Rattle.http_wire.specs.Timing.{Event, Steps}
 use Rattle.host_connection.specs.Carrying.{Carries, MayWait}
 use Rattle.host_connection.proofs.Advancing.{AdvancedSoFar}
-use Rattle.host_connection.proofs.steps.Connection.go_through.Given as goal
+use Rattle.host_connection.proofs.steps.Connection.go_through_phases.Given as goal
 use Rattle.host_connection.proofs.Asking.{AskedOnce}
 
 abbrev pub invariant-phases : goal.invariant-phases

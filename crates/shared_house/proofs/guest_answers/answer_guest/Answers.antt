@@ -4,7 +4,7 @@ use Rattle.shared_house.specs.Desks.{shows}
 use Rattle.shared_house.specs.HouseLaws as houses
 use Rattle.shared_house.specs.Seeing.{HasAll, Known, by_front}
 use Rattle.shared_house.specs.Shared.{IsSharedAnswer}
-use Rattle.shared_house.proofs.guests.answer_guest.Goals as goal
+use Rattle.shared_house.proofs.guest_answers.answer_guest.Goals as goal
 
 pub returns-clause-replied : goal.returns-clause-replied
 returns-clause-replied g c = (
