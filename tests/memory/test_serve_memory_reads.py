@@ -25,6 +25,8 @@ RANGES = "Range: bytes=0-4,-5"
 TEXT = "text/plain; charset=utf-8"
 # The ports for other nodes come after so many of those for clients.
 PEERS, POINTS = 8, 50
+# How many bytes of a request come before the others.
+BEGUN = 10
 # Nothing goes on any more in a program that made no allocation for so many seconds.
 QUIET = 0.03
 
@@ -126,8 +128,12 @@ class Joins(Short):
             self.assertEqual(line.ask(NEXT), NO_FILE)
         leader.send(self.asked)
         self.held.wait("opened", "held")
+        # A connection at rest has no room for a request. Without memory for that it ends, which isn't looked at here.
+        self.refusals.refuse(0)
+        joiner.send(self.asked[:BEGUN])
+        self.wait_until_quiet()
         self.refusals.refuse(place if is_refused_first else 0)
-        joiner.send(self.asked)
+        joiner.send(self.asked[BEGUN:])
         self.wait_until_quiet()
         self.counted = self.refusals.counted
         self.refusals.refuse(0 if is_refused_first else place)
