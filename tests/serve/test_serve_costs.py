@@ -13,7 +13,7 @@ import sys
 import threading
 
 from lib.client import PATIENCE, PROGRAM
-from lib.served import FILE, HOST, Served, ask, publish
+from lib.served import FILE, HOST, Served, publish
 
 CONTENT = b"x" * 64
 FEW, MANY = 200, 1_400

@@ -1,4 +1,5 @@
 //! What docs/WIRE.md says of the end of a connection: whether it may, and whether another one goes first.
+use crate::rooms::REPLIES;
 use crate::worlds::World;
 use simulated_clients::{Caller, Doing};
 
@@ -37,7 +38,7 @@ impl World {
             self.judge_refusal(&caller);
         } else if caller.is_late_by(0, &self.limits, self.now) {
             self.seen.late = self.seen.late.saturating_add(1);
-        } else if self.gives_reply(&caller) && self.may_give_replies() {
+        } else if self.gives_reply(&caller) && self.replies().max(self.most_replies) > REPLIES {
             self.judge_room(&caller);
             self.seen.replies = self.seen.replies.saturating_add(1);
         } else if self.gives_body(&caller) && self.bodies_to_go > 0 {

@@ -125,16 +125,6 @@ impl World {
         self.most_replies = 0;
     }
 
-    /// Notes what the replies hold, before a step changes it.
-    pub(crate) fn note_replies(&mut self) {
-        self.most_replies = self.most_replies.max(self.replies());
-    }
-
-    /// Whether the replies hold too much, for all that a worker knows in the middle of this turn.
-    pub(crate) fn may_give_replies(&self) -> bool {
-        self.replies().max(self.most_replies) > REPLIES
-    }
-
     /// How many bytes of files all replies hold.
     pub(crate) fn replies(&self) -> u64 {
         let mut all = 0_u64;

@@ -233,7 +233,7 @@ impl World {
         {
             self.appoint(at);
         }
-        self.note_replies();
+        self.most_replies = self.most_replies.max(self.replies());
         let Some(caller) = self.callers.get_mut(at) else {
             return;
         };
